@@ -20,8 +20,8 @@ from office import serving, written
 GET = b"GET /rounds/1 HTTP/1.1\r\n\r\n"
 SHUT, RESET = "shut", "reset"
 
-# What a client does: it sends bytes, reads so many whole answers (a number), lets so many seconds pass (a fraction), says that no more
-# comes, or breaks its connection off. Then what is told of it.
+# What a client does: it sends bytes; a whole number is how many answers it reads, a fraction how many seconds it lets pass; it says that no
+# more comes, or breaks its connection off. Then what is printed of it.
 CLIENTS = [
     ("reads each answer before it asks on", [GET, 1, GET, 1, SHUT], "2 answers, closed"),
     ("is slow to begin", [0.3, GET, 1, SHUT], "1 answers, closed"),

@@ -1103,7 +1103,7 @@ class Trial(People):
         self.check("an empty row", "Its empty rows are left out." in it.text("#chosen"))
         it.press("#send")
         self.check("without it", it.text("#chosen summary").endswith(": 4 imported"))
-        # One mistake many times: fifty rows are told, and no others may come in.
+        # One mistake many times: fifty rows are named, and no others may come in.
         many, start = self.file("many.csv", "code,name\n" + "".join(f"s{at},Name\n" for at in range(51)) + "S90,Name\n"), self.sent()
         it.choose(many)
         it.press("#send")
@@ -1124,7 +1124,7 @@ class Trial(People):
         it.choose(self.file("all.csv", "code,name\ns1,Name\n"))
         it.press("#send")
         self.check("no other row", (it.text("#told").splitlines()[0], it.text(".wrong button")), ("1 row of all.csv is refused.", None))
-        # A full roll is told at each row that it has no room for, and a row of a wrong code does not fill it.
+        # A full roll is named at each row that it has no room for, and a row of a wrong code does not fill it.
         self.looked(
             "supervisors",
             "full.csv",
@@ -1132,7 +1132,7 @@ class Trial(People):
             [(2, 9), (98, 12), (99, 12)],
             ["x", "V95", "V96"],
         )
-        # As long as it may be: there is no room for the last row, and the first wrong row alone is told.
+        # As long as it may be: there is no room for the last row, and the first wrong row alone is named.
         long = "code,name\nS01,\nS02,\n" + "S03,Clara\n" * 6550
         self.refused_alone("long.csv", long + "S03," + "C" * (65536 - len(long) - 5) + "\n")
         self.looked(

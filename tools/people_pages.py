@@ -31,7 +31,7 @@ CARDS = """return [...document.querySelectorAll('#projects > li:not([hidden])')]
 CHOICES = "return [...document.querySelectorAll('#list .what')].map(it => [...it.children].map(part => part.textContent))"
 TABLES = """return [...document.querySelectorAll('main section')].map(it => [it.querySelector('h2').firstChild.textContent,
   ...[...it.querySelectorAll('tbody tr')].map(row => [...row.cells].map(cell => cell.textContent))])"""
-# All texts whose contrast with what is behind them is below 4.5, as WCAG 2 counts it.
+# All texts whose contrast with what is under them is below 4.5, as WCAG 2 counts it.
 PALE = """
 const light = ([r, g, b]) => { const part = it => (it /= 255) <= .04045 ? it / 12.92 : ((it + .055) / 1.055) ** 2.4;
   return .2126 * part(r) + .7152 * part(g) + .0722 * part(b); };

@@ -144,7 +144,7 @@ END
 slapd -f trial.conf -h ldaps://127.0.0.1
 """]
 MARK = "and the next command"
-# what is tried behind the first block, and behind the page, and what it prints
+# what is tried after the first block, and after the page, and what it prints
 INSTALLED = [("(cd / && sha256sum --quiet -c usr/share/doc/spadesk/SHA256SUMS)", "")]
 BEHIND = [
     ("systemd-analyze verify /lib/systemd/system/spadesk*.service /lib/systemd/system/spadesk-copy.timer", ""),

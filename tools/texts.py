@@ -6,13 +6,14 @@ tools/texts.py --words     the words of each page
 
 What is named is there: a file, by its path from the top, from the crate or from the folder of who names it; and a figure, which counts
 where it has a comma, as 65,536, and stands in a comment of the code: some constant or text of the code has it. Of a name in backquotes, as
-`Desk::ask`, and of a label in italics behind it some file has all words, outside comments or in its own name. A link goes to a file that is
+`Desk::ask`, and of a label in italics after it some file has all words, outside comments or in its own name. A link goes to a file that is
 there and to a heading that it has, an anchor in backquotes to a heading of some page. A name of the code stands in backquotes: a word with
 an underscore or `::` does, and one with a capital inside that the code has.
 
 A page can be read: no line is above 140 columns, no sentence above 45 words, no cell of a table above 30 words, and no word stands for
-two things. A page is a text in Markdown outside crates. Commands and texts in code are not sentences. Words that stand for two things are
-looked for in the comments of the code too.
+two things. A page is a text in Markdown outside crates. Commands and texts in code are not sentences. Comments too have no line above 140
+columns, no word for two things, and no word of the house where the field has one (`WORDS`); and the doc of a function that returns
+something begins with a verb.
 
 docs/PROOF.md names a lemma, a definition or a law in backquotes, and then the file in which it stands: `settles`
 (`network/proofs/Settle.antt`); several names in a row have one file. Each must stand there. Above each lemma, which is what stands in
@@ -31,7 +32,7 @@ FIGURE = re.compile(r"(?<![\d,.])\d{1,3}(?:,\d{3})+(?![\d,])")
 COMMENT = re.compile(r"\s*(?://|--|why:|# )")
 # files that a school has, or that a line makes
 ELSEWHERE = re.compile(r"(school|later|older|first|round\d*|served|monday|tuesday)\b.*")
-# a name in backquotes that is no hash, and the labels behind it; files whose words are no names
+# a name in backquotes that is no hash, and the labels after it; files whose words are no names
 NAMED = re.compile(r"`(?![0-9a-f]{40})([^\W\d]\w*(?:(?:::|\.)\w+)*)(?:\(\))?`((?:,?(?: and)? \(?\*\w+\*)*)")
 TEXTS = (".md", ".html", ".yaml", ".csv", ".svg", ".png", ".txt", ".edit")
 # names of Apache, nginx, HTTP, SQLite, std and valgrind, and the account of an example
@@ -45,14 +46,31 @@ SECTION = re.compile(r"`#([a-z][\w-]*)`")
 
 COLUMNS, SENTENCE, CELL = 140, 45, 30
 COMMANDS = "serve|import|open-round|close-round|reopen-round|report|solve|check"
-# what is not said, and what is said instead; of pages alone, or of comments too
+PAGES, COMMENTS, BOTH = (True,), (False,), (True, False)
+# what is not said, what is said instead, and where
 WORDS = [
-    (rf"\blines? `(?:spadesk )?(?:{COMMANDS})\b", "a line is one of a text; of the program say command", True),
-    (r"\blines? of the program\b", "a line is one of a text; of the program say command", True),
-    (r"\bline (?:that|which) (?:opens|opened|raises|raised|is killed|was killed|was refused|is refused)\b", "say command", True),
-    (r"\bmoods?\b", "say phase", False),
-    (r"\bthe rank of settling\b", "a rank is a pair's; of settling say turn", False),
+    (rf"\blines? `(?:spadesk )?(?:{COMMANDS})\b", "a line is one of a text; of the program say command", PAGES),
+    (r"\blines? of the program\b", "a line is one of a text; of the program say command", PAGES),
+    (r"\bline (?:that|which) (?:opens|opened|raises|raised|is killed|was killed|was refused|is refused)\b", "say command", PAGES),
+    (r"\bmoods?\b", "say phase", BOTH),
+    (r"\bthe rank of settling\b", "a rank is a pair's; of settling say turn", BOTH),
+    (r"\b[Ww]ant of memory\b", "say out of memory", BOTH),
+    (r"\b(?:[Tt]akes?|[Tt]aking|[Ff]inds?|[Ff]ound) no memory\b|\bwants? memory\b", "say allocates nothing, or runs out of it", COMMENTS),
+    (r"\b[Mm]emory (?:is|was) refused\b|\b[Rr]efused memory\b|\bgrowth of memory\b", "say an allocation fails", BOTH),
+    (r"\b[Tt]ables? [^.;:]*\b(?:is|are|was|were) (?:not )?raised\b|\b[Rr]ais(?:e|es|ing) (?:the|its) tables\b", "say migrate", COMMENTS),
+    (r"\b[Bb]ehind\b(?! a pointer)", "say after, or under", COMMENTS),
+    (r"\b[Bb]eside\b", "say next to", COMMENTS),
+    (r"\b[Aa]part\b", "say distinct, separate, or except for", COMMENTS),
+    (r"\ball the same\b", "say still, or unchanged", BOTH),
+    (r"\b[Ss]o many\b", "say which count it is", BOTH),
+    (r"\bin turn\b", "say in order, or one after another", BOTH),
+    (r"(?<![\w`*/])(?:[Tt]old|[Tt]ells?|[Tt]elling)\b(?![_.]\w)", "say returns, prints, writes, declares, decodes or names", COMMENTS),
+    (r"\bkept (?:session|import|number)s?\b|\b(?:session|import) (?:that )?is kept\b", "say cached, or stored of an import", COMMENTS),
+    (r"\bturns? (?:(?:the|their|its|no) )?rows?\b", "say transform", COMMENTS),
 ]
+# the doc of a function that returns something, and how one begins that names a thing and no deed; a law returns nothing
+DOC = re.compile(r"(?:^ *///.*\n)+(?: *#\[.*\n)*(?= *(?:pub(?:\(crate\))? )?fn \w[^{;]*->)", re.MULTILINE)
+NOUN = re.compile(r" */// (?:What|How|Why|Where|Whom?|Which|The|An?|All|Each|These|Is|Are|Do)\b.*")
 
 PROOF = "docs/PROOF.md"
 QUESTION = "The question"
@@ -174,11 +192,20 @@ def unreadable(name, text):
 
 
 def doubled(name, text):
-    """The words of a page, or of the comments of a file, that stand for two things."""
+    """The words of a page, or of the comments of a file, that stand for two things, and the comments that are too long."""
     for number, line in prose(name, text):
-        for pattern, say, of_pages in WORDS:
-            if (is_page(name) or not of_pages) and (hit := re.search(pattern, line)):
+        if len(line) > COLUMNS and not is_page(name):
+            yield f"{name}:{number}: {len(line)} columns"
+        for pattern, say, where in WORDS:
+            if is_page(name) in where and (hit := re.search(pattern, line)):
                 yield f"{name}:{number}: {hit[0]}: {say}"
+
+
+def nouns(name, text):
+    """The docs of functions that begin with no verb."""
+    for doc in DOC.finditer(text if name.endswith(".rt") else ""):
+        if hit := NOUN.match(doc[0]):
+            yield f"{name}:{text.count(chr(10), 0, doc.start()) + 1}: {hit[0].strip()[4:50]} ..: begin with what the function does"
 
 
 def steps(page):
@@ -248,7 +275,7 @@ def main(*asked):
     where = standing()
     found = [*misnamed(texts), *unlinked(pages), *unheld(texts, held)]
     found += [fault for page in pages.items() for fault in unreadable(*page)]
-    found += [fault for one in texts.items() for fault in [*unheld_names(*one, where), *doubled(*one)]]
+    found += [fault for one in texts.items() for fault in [*unheld_names(*one, where), *doubled(*one), *nouns(*one)]]
     well = f"all that is named is there, each page can be read, and each of {len(held)} lemmas of {PROOF} names its step"
     print("\n".join(found) or well)
     return 1 if found else 0

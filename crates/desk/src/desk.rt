@@ -93,7 +93,7 @@ impl<S: Alter> Desk<S> {
         }
     }
 
-    /// The tables of every desk stand for its office, which is fit, and a session that it keeps sits in its open round.
+    /// The tables of every desk stand for its office, which is fit, and a session that it caches sits in its open round.
     pub fn keeps(&self)
         ensures tables { Keeps (state S.Store self.now.store) self.now.office }
         ensures ended { self.now.store.in_transaction ≡ false }

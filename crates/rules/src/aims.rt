@@ -209,7 +209,7 @@ fn numbered(alloc: Global, number: u32) -> Result<Matching, Fail> {
     Ok(Matching { places })
 }
 
-/// The profile that no matching betters by an aim, each tried one after another.
+/// Searches for the profile that no matching betters by an aim, each tried one after another.
 fn searched(alloc: Global, instance: &Instance, aim: Aim) -> Result<[u32; RANKS], Fail> {
     let mut best = [0; RANKS];
     for number in 0..256u32 {

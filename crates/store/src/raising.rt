@@ -1,4 +1,4 @@
-//! Raising the tables of an earlier edition.
+//! Migrating the tables of an earlier edition.
 
 ghost use Rattle.std.specs.Prelude.{◌≡◌, ◌≢◌, false, OnOk, OnErr};
 ghost use Rattle.sqlite.specs.State.{HasCleanDisk, Survives};

@@ -59,7 +59,7 @@ const NINE: &str =
 const NINE_OF_TWELVE: &str =
     r#"GET /preview || 200 OK | {"profile":[1,1,1,1,1,1,1,1,1,0,0,0],"size":9}"#;
 
-/// Each of the twelve lists all nine, and nine are placed, one at each rank.
+/// Compares twelve students: each lists all nine, and nine are placed, one at each rank.
 fn compare_twelve<S: Alter>(alloc: Global, desk: &mut Desk<S>) -> Result<(), Fail> {
     play_rows(alloc, desk, "", TWELVE)?;
     steps_after(alloc, desk, OPEN)?;
