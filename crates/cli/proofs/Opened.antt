@@ -62,8 +62,8 @@ module _ {S : Type 0} (ghosts : Ghosts S) where
   comes_of : (done : Task) (before after : DeskState S) (o : Outcome) → ComesFrom ghosts done before after o → ComesOf done (at_desk before) (at_desk after) o
   comes_of (task.Ask asked) before after o from = record {
     answer = from.0;
-    step = from.1.gets.step;
-    told = from.1.gets.right;
+    step = from.1.gets.gives.step;
+    told = from.1.gets.gives.right;
     at_once = at_once before.office asked from.0 from.1.gets.at_once.round from.1.gets.at_once.repeated;
     is = from.2;
   }
