@@ -41,8 +41,8 @@ FIRST, TERM = (
     [os.path.join(TOP, "examples", folder, f"{kind}.csv") for kind in ("lists", "students", "projects", "supervisors")]
     for folder in ("first-round", "term")
 )
-# Mistakes in the pages of the office and in the page that checks, as those of people_pages.py: the part that has the trial, the file, what
-# stands there, what a mutant has in its place, and the trial that must fail.
+# Mistakes in the pages of the office and in the page that checks, as those of `people_pages.py`: the part that has the trial, the file,
+# what stands there, what a mutant has in its place, and the trial that must fail.
 OFFICE_MUTANTS = [
     ("first_round", "office.html", 'kind === "best" && /^C,/m', 'kind === "best" && /^/m', "no proof: ''"),
     ("first_round", "office.html", "file.slice(0, MOST_TEXT + 1)", "file.slice(0, 8)", "by the page, opened again"),

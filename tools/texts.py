@@ -5,7 +5,10 @@ tools/texts.py             each with its place; ends with status 1 where there i
 tools/texts.py --words     the words of each page
 
 What is named is there: a file, by its path from the top, from the crate or from the folder of who names it; and a figure, which counts
-where it has a comma, as 65,536, and stands in a comment of the code: some constant or text of the code has it.
+where it has a comma, as 65,536, and stands in a comment of the code: some constant or text of the code has it. Of a name in backquotes, as
+`Desk::ask`, and of a label in italics behind it some file has all words, outside comments or in its own name. A link goes to a file that is
+there and to a heading that it has, an anchor in backquotes to a heading of some page. A name of the code stands in backquotes: a word with
+an underscore or `::` does, and one with a capital inside that the code has.
 
 A page can be read: no line is above 140 columns, no sentence above 45 words, no cell of a table above 30 words, and no word stands for
 two things. A page is a text in Markdown outside crates. Commands and texts in code are not sentences. Words that stand for two things are
@@ -16,6 +19,7 @@ docs/PROOF.md names a lemma, a definition or a law in backquotes, and then the f
 `proofs/`, two lines or more tell its idea and begin with its step: "Step 6 of docs/PROOF.md.", of one named before the first step "The
 question of docs/PROOF.md.". And no other lemma's comment names a step.
 """
+import collections
 import os
 import re
 import sys
@@ -24,9 +28,20 @@ from office import TOP, listed, read
 
 PATH = re.compile(r"`((?:[\w.-]+/)*[\w-]+\.(?:rt|antt|py|md|csv|edit|svg|yaml|c|rs|html|conf|service|sql|txt))`")
 FIGURE = re.compile(r"(?<![\d,.])\d{1,3}(?:,\d{3})+(?![\d,])")
-COMMENT = re.compile(r"\s*(?://|--|why:)")
+COMMENT = re.compile(r"\s*(?://|--|why:|# )")
 # files that a school has, or that a line makes
 ELSEWHERE = re.compile(r"(school|later|older|first|round\d*|served|monday|tuesday)\b.*")
+# a name in backquotes that is no hash, and the labels behind it; files whose words are no names
+NAMED = re.compile(r"`(?![0-9a-f]{40})([^\W\d]\w*(?:(?:::|\.)\w+)*)(?:\(\))?`((?:,?(?: and)? \(?\*\w+\*)*)")
+TEXTS = (".md", ".html", ".yaml", ".csv", ".svg", ".png", ".txt", ".edit")
+# names of Apache, nginx, HTTP, SQLite, std and valgrind, and the account of an example
+FOREIGN = "authnz_ldap LDAPCacheTTL keepalive proxy_read_timeout Host auto_vacuum Display callgrind s01"
+WORD = re.compile(r"[^\W\d]\w*")
+# what of a line is no prose: code, addresses, paths, and what is in italics or bold, as a label is
+ASIDE = re.compile(r"`[^`]*`|\]\([^)]*\)|[\w.-]*/\S+|\*+[^*]+\*+")
+BARE = re.compile(r"\w*[^\W_]_[^\W_]\w*|\b[A-Z]\w*[a-z][A-Z]\w*|\w+::\w+")
+LINK = re.compile(r"\]\(([^)\s:#]*)#?([\w-]*)\)")
+SECTION = re.compile(r"`#([a-z][\w-]*)`")
 
 COLUMNS, SENTENCE, CELL = 140, 45, 30
 COMMANDS = "serve|import|open-round|close-round|reopen-round|report|solve|check"
@@ -55,19 +70,68 @@ def is_there(path, name, files):
     return any(os.path.normpath(os.path.join(place, path)) in files for place in places) or any(it.endswith(tail) for it in files)
 
 
+def prose(name, text):
+    """The lines of a page outside code, or the comments of a file, each with its number."""
+    is_code = False
+    for number, line in enumerate(text.splitlines(), 1):
+        is_fence = name.endswith(".md") and line.lstrip().startswith("```")
+        is_code ^= is_fence
+        if not (is_code or is_fence) if name.endswith(".md") else COMMENT.match(line):
+            yield number, line
+
+
 def misnamed(texts):
     """What is named and not there."""
     files = set(listed())
     lines = [line for name, text in texts.items() if name.endswith(".rt") for line in text.splitlines()]
     held = {figure for line in lines if not COMMENT.match(line) for figure in re.findall(r"\d+", line.replace("_", ""))}
     for name, text in texts.items():
-        for at, line in enumerate(text.splitlines(), 1):
-            is_comment = COMMENT.match(line)
-            if name.endswith(".md") or is_comment:
-                paths = [path for path in PATH.findall(line) if not ELSEWHERE.match(path)]
-                yield from (f"{name}:{at}: {path}" for path in paths if not is_there(path, name, files))
-            if is_comment and not name.endswith(".py"):
+        for at, line in prose(name, text):
+            paths = [path for path in PATH.findall(line) if not ELSEWHERE.match(path)]
+            yield from (f"{name}:{at}: {path}" for path in paths if not is_there(path, name, files))
+            if not name.endswith((".md", ".py")):
                 yield from (f"{name}:{at}: {figure}" for figure in FIGURE.findall(line) if figure.replace(",", "") not in held)
+
+
+def standing():
+    """By each word the files that have it outside comments, or in their own names."""
+    where = collections.defaultdict(set, {word: {"elsewhere"} for word in FOREIGN.split()})
+    for name in listed():
+        lines = [] if name.endswith(TEXTS) else read(name).splitlines()
+        for word in WORD.findall("\n".join([name, *(line for line in lines if not COMMENT.match(line))])):
+            where[word].add(name)
+    return where
+
+
+def unheld_names(name, text, where):
+    """The names in backquotes that nothing has, and those of the code that stand outside backquotes."""
+    for at, line in prose(name, text):
+        for named, labels in NAMED.findall(line):
+            for said in [named, *(f"{named} {label}" for label in re.findall(r"\w+(?=\*)", labels))]:
+                if not set.intersection(*(where[word] for word in WORD.findall(said))):
+                    yield f"{name}:{at}: {said}: nothing has this name"
+        for word in BARE.findall(ASIDE.sub("", line)):
+            if "_" in word or any(path.endswith((".rt", ".antt")) for path in where[word.partition("::")[0]]):
+                yield f"{name}:{at}: {word}: a name without backquotes"
+
+
+def anchors(name, text):
+    """The anchors of a page's headings, as GitHub makes them."""
+    headings = [re.sub(r"\]\([^)]*\)", "", line.lstrip("# ")) for _, line in prose(name, text) if line.startswith("#")]
+    return {re.sub(r"[^\w -]", "", heading).lower().replace(" ", "-") for heading in headings}
+
+
+def unlinked(pages):
+    """The links of pages to a file or a heading that is not there."""
+    heads = {name: anchors(name, text) for name, text in pages.items()}
+    for name, text in pages.items():
+        for at, line in prose(name, text):
+            for path, head in LINK.findall(line):
+                to = os.path.normpath(os.path.join(os.path.dirname(name), path)) if path else name
+                if not os.path.exists(os.path.join(TOP, to)) or head and head not in heads.get(to, ()):
+                    yield f"{name}:{at}: {path}#{head}: it leads nowhere"
+            lost = [head for head in SECTION.findall(line) if not any(head in those for those in heads.values())]
+            yield from (f"{name}:{at}: #{head}: no page has it" for head in lost)
 
 
 def is_page(name):
@@ -111,11 +175,10 @@ def unreadable(name, text):
 
 def doubled(name, text):
     """The words of a page, or of the comments of a file, that stand for two things."""
-    comment = re.compile(r"\s*(?://|--|#)")
-    for number, line in enumerate(text.splitlines(), 1):
+    for number, line in prose(name, text):
         for pattern, say, of_pages in WORDS:
-            if (is_page(name) or not of_pages and comment.match(line)) and re.search(pattern, line):
-                yield f"{name}:{number}: {re.search(pattern, line)[0]}: {say}"
+            if (is_page(name) or not of_pages) and (hit := re.search(pattern, line)):
+                yield f"{name}:{number}: {hit[0]}: {say}"
 
 
 def steps(page):
@@ -182,8 +245,10 @@ def main(*asked):
             print(f"{len(text.split()):6} {name}")
         return 0
     held = set()
-    found = [*misnamed(texts), *(fault for page in pages.items() for fault in unreadable(*page)), *unheld(texts, held)]
-    found += [fault for name, text in texts.items() if is_page(name) or name.endswith((".rt", ".antt")) for fault in doubled(name, text)]
+    where = standing()
+    found = [*misnamed(texts), *unlinked(pages), *unheld(texts, held)]
+    found += [fault for page in pages.items() for fault in unreadable(*page)]
+    found += [fault for one in texts.items() for fault in [*unheld_names(*one, where), *doubled(*one)]]
     well = f"all that is named is there, each page can be read, and each of {len(held)} lemmas of {PROOF} names its step"
     print("\n".join(found) or well)
     return 1 if found else 0

@@ -65,7 +65,7 @@ fn read_list(
     Ok(Some(list))
 }
 
-/// AddsEntry the price of the next entry of a roll.
+/// Adds the price of the next entry of a roll.
 fn add_price<E: Coded>(
     prices: &mut Vec<[i64; PLACES]>,
     roll: &[E],
@@ -191,7 +191,7 @@ impl PartialRound {
         true
     }
 
-    /// AddsEntry a supervisor, if the fields are of the next.
+    /// Adds a supervisor, if the fields are of the next.
     fn add_supervisor(&mut self, fields: &[&[u8]]) -> Result<bool, AllocError>
         requires { IsDraft (draft_of self.old) }
         ensures { IfOk result (λ b. AddsEntry Supervisors (draft_of self.old) (map (λ f. f.now) fields.now) (draft_of self.new) b) }
@@ -211,7 +211,7 @@ impl PartialRound {
         Ok(true)
     }
 
-    /// AddsEntry a project, if the fields are of the next.
+    /// Adds a project, if the fields are of the next.
     fn add_project(&mut self, fields: &[&[u8]]) -> Result<bool, AllocError>
         requires { IsDraft (draft_of self.old) }
         ensures { IfOk result (λ b. AddsEntry Projects (draft_of self.old) (map (λ f. f.now) fields.now) (draft_of self.new) b) }
@@ -236,7 +236,7 @@ impl PartialRound {
         Ok(true)
     }
 
-    /// AddsEntry a student, if the fields are of the next.
+    /// Adds a student, if the fields are of the next.
     fn add_student(&mut self, alloc: Global, fields: &[&[u8]]) -> Result<bool, AllocError>
         requires { IsDraft (draft_of self.old) }
         ensures { IfOk result (λ b. AddsEntry Students (draft_of self.old) (map (λ f. f.now) fields.now) (draft_of self.new) b) }
@@ -254,7 +254,7 @@ impl PartialRound {
         Ok(true)
     }
 
-    /// AddsEntry a pair, if the fields are of the next.
+    /// Adds a pair, if the fields are of the next.
     fn add_pair(&mut self, fields: &[&[u8]]) -> Result<bool, AllocError>
         requires { IsDraft (draft_of self.old) }
         ensures { IfOk result (λ b. AddsEntry Pairs (draft_of self.old) (map (λ f. f.now) fields.now) (draft_of self.new) b) }
@@ -279,7 +279,7 @@ impl PartialRound {
         Ok(true)
     }
 
-    /// AddsEntry what a row of a section stands for, if it comes next there.
+    /// Adds what a row of a section stands for, if it comes next there.
     fn add_to(
         &mut self,
         alloc: Global,
@@ -310,7 +310,7 @@ impl PartialRound {
         }
     }
 
-    /// AddsEntry what a line's fields stand for, if they may come here.
+    /// Adds what a line's fields stand for, if they may come here.
     fn add(&mut self, alloc: Global, fields: &[&[u8]]) -> Result<bool, AllocError>
         requires draft { IsDraft (draft_of self.old) }
         requires fields { All IsField (map (λ f. f.now) fields.now) }
@@ -328,7 +328,7 @@ impl PartialRound {
         self.add_to(alloc, section, row)
     }
 
-    /// AddsEntry what a line stands for, if it may come here.
+    /// Adds what a line stands for, if it may come here.
     pub(crate) fn add_line(&mut self, alloc: Global, line: &[u8]) -> Result<bool, AllocError>
         requires { IsDraft (draft_of self.old) }
         ensures { IfOk result (λ b. AddsLine (draft_of self.old) line.now (draft_of self.new) b) }

@@ -1,7 +1,7 @@
 //! Student/project allocation: codes, instances, matchings, profiles and worths.
 //!
 //! A value of these types is well formed by construction: every crate above takes it as given and tests nothing again.
-//! Nothing here chooses a matching; `network` and `solver` do, and `verdict` checks one. Nothing here knows an office.
+//! Nothing here chooses a matching; `search` and `network` do, and `verdict` checks one. Nothing here knows an office.
 //! The problem is that of Kwanashie, Irving, Manlove and Sng, "Profile-based optimal matchings in the student/project
 //! allocation problem", with upper quotas alone.
 //!

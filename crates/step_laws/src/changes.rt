@@ -1,4 +1,4 @@
-//! Changes of the tables that need a loop.
+//! The changes of a request that makes several, and the placements that a reopening keeps.
 
 ghost use Rattle.std.specs.Prelude.{◌≡◌, ◌≤◌, IfOk, length};
 ghost use Rattle.spa.specs.declared.TheConstants.{RANKS};

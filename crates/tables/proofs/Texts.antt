@@ -149,7 +149,7 @@ module _ (table : Table) where
 read_whole : (sql : List ℕ) → slice_range sql 0 (length sql) ≡ sql
 read_whole sql = take_all _ sql (omega arith)
 
--- what is no query is none on sqlite_schema
+-- what is no query is none on `sqlite_schema`
 not_select : (p : Parsed) (r : Checked Command) → ((k : Command) → r ≡ Ok k → is_select k ≡ false)
     → if_select (and_then (and_then (and_then r (λ does. Ok (does, None))) (λ found. Ok ([], found))) (λ plan. Ok (with_command p plan))) ≡ Err NoSuchTable
 not_select p (Ok k) other = rw (other k refl) refl

@@ -86,7 +86,7 @@ pub record Telling : Type 0 where
   pub sql : Sql
   pub checks : List Term
 
--- the tables, each told once
+-- what is told of each table, which the code has in the same words (`src/table.rt`)
 abbrev pub telling : Table → Telling
 telling Edition = record {
   shape = by_rowid (codes "edition") ((codes "id", Integer) ∷ (codes "number", Integer) ∷ []) [];

@@ -1,4 +1,5 @@
-//! The SQL of the product: each table told once, a function for each statement over any of them, and one that takes a list away.
+//! The SQL of the product: what is told of each table, a function for each statement over any of them, and one that takes a
+//! list away, or the placements of a round.
 //!
 //! Nothing here knows an office. `store`, one crate above, says what the rows mean, and puts the
 //! statements together into transactions. Each function here makes one call of the database, or two,
@@ -11,9 +12,9 @@
 //! `specs/Steps.antt`; begin there.
 //!
 //! A table that is made is STRICT, its references name their columns, and it has the CHECK rules that are
-//! told; one that is found keeps its own. A further table is a variant of `Table`, its shape and its texts in
-//! `table.rt` and in `specs/Table.antt`, and the reading of its five texts in `proofs/Tables.antt`: what
-//! statements do is proved for all.
+//! told; one that is found keeps its own. A further table is a variant of `Table` with its kinds and its key
+//! in `row_data`, its shape and its texts in `table.rt` and in `specs/Table.antt`, and the reading of its five
+//! texts in `proofs/Tables.antt`: what statements do is proved for all.
 #![tactic(auto)]
 
 pub mod fault;

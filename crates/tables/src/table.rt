@@ -1,4 +1,4 @@
-//! The tables, each told once.
+//! The tables as SQL has them: columns, keys, references, and the texts of their statements.
 
 ghost use Rattle.std.specs.Prelude.{◌≡◌, length};
 ghost use Rattle.tables.specs.Table.{Sharing, kinds_of, shape_of, sharing, sql_of};
