@@ -178,8 +178,8 @@ class Rows:
         """Requests over HTTP follow."""
         self.add("", f"at {name}.db")
 
-    def command(self, words, out):
-        self.add(f"spadesk {words} | 0 | {cell(out)} |")
+    def command(self, words, out, err=""):
+        self.add(f"spadesk {words} | 0 | {cell(out)} | {cell(err)}".rstrip())
 
     def ask(self, counted, asked, body, answer):
         self.add(f"{counted} | {asked} | {body} | 200 OK | {answer}")
@@ -192,7 +192,8 @@ class Rows:
             self.ask("0 1 none", f"POST /imports/{kind}/{name}", text, f'{{"rows":{count}}}')
         else:
             self.add(f"file {kind}.csv | {text}")
-            self.command(f"import full.db {kind} {name} {kind}.csv", f"rows {count}\n")
+            new = "new full.db\n" if self.imports == 1 else ""
+            self.command(f"import full.db {kind} {name} {kind}.csv", f"rows {count}\n", new)
 
     def bring_projects(self, quota, is_asked):
         for first in (0, 200):

@@ -2,7 +2,6 @@
 use Rattle.std.proofs.Common.{◌≡◌, inl, inr, ℕ, List, [], Option, Some, None, Result, Ok, Err, ap, sym, subst, ◌∙◌}
 use Rattle.sqlite.specs.Effect.{Database}
 use Rattle.sqlite.specs.Schema.{Schema}
-use Rattle.sqlite_trees.specs.declared.store.Store.{Ghosts}
 use Rattle.sqlite_schema.specs.Names.{table_named}
 use Rattle.row_data.specs.declared.table.Table.TheVariants.{Edition}
 use Rattle.tables.specs.Table.{shape_of}
@@ -12,9 +11,7 @@ use Rattle.desk.specs.DeskState.{DeskState}
 use Rattle.wire.specs.declared.outcome.Served.{Served}
 use Rattle.wire.specs.declared.outcome.StreamFault.{StreamFault}
 use Rattle.wire.specs.Served.{IsServed}
-use Rattle.web.specs.Serving.{AnswersFrom, AnswersMessage, AtDesk, at_desk, end_text, just_opened}
-use Rattle.web.proofs.OneMessage.{message_seen}
-use Rattle.web.proofs.Seen.{is_served_seen}
+use Rattle.web.specs.Serving.{AnswersMessage, AtDesk, at_desk, end_text, just_opened}
 use Rattle.cli.specs.Anew.{ServedAnew, BrokenAnew}
 use Rattle.cli.proofs.Opened.{no_sitting}
 
@@ -36,17 +33,15 @@ pub opened_anew : {S : Type 0} (old new : Database) (desk : DeskState S) → old
     → at_desk desk ≡ just_opened empty
 opened_anew old new desk none opens no_session = no_sitting desk no_session ∙ ap just_opened (opened_empty old new desk.office none opens)
 
-module _ {S : Type 0} (ghosts : Ghosts S) (before after : DeskState S) (left0 w0 left w : Option (List ℕ)) (empty_at : at_desk before ≡ just_opened empty) where
-  -- as it is seen from there
-  seen : (came : Result Served StreamFault) → IsServed (AnswersFrom ghosts) end_text before left0 w0 came after left w → IsServed AnswersMessage end_text (just_opened empty) left0 w0 came (at_desk after) left w
-  seen came s =
-      subst (λ (d : AtDesk). IsServed AnswersMessage end_text d left0 w0 came (at_desk after) left w) empty_at
-      (is_served_seen at_desk AnswersMessage end_text (AnswersFrom ghosts) (λ b words bytes a step. message_seen ghosts b words bytes a step) before after left0 w0 left w came s)
+module _ (before after : AtDesk) (left0 w0 left w : Option (List ℕ)) (empty_at : before ≡ just_opened empty) where
+  -- as it is from there
+  anew : (came : Result Served StreamFault) → IsServed AnswersMessage end_text before left0 w0 came after left w → IsServed AnswersMessage end_text (just_opened empty) left0 w0 came after left w
+  anew came s = subst (λ (d : AtDesk). IsServed AnswersMessage end_text d left0 w0 came after left w) empty_at s
 
   -- what was served from there
-  pub served_anew : (served : Served) → IsServed (AnswersFrom ghosts) end_text before left0 w0 (Ok served) after left w → ServedAnew left0 w0 left w
-  served_anew served s = (served, at_desk after, (seen (Ok served) s).served)
+  pub served_anew : (served : Served) → IsServed AnswersMessage end_text before left0 w0 (Ok served) after left w → ServedAnew left0 w0 left w
+  served_anew served s = (served, after, (anew (Ok served) s).served)
 
   -- what broke off from there
-  pub broken_anew : (fault : StreamFault) → IsServed (AnswersFrom ghosts) end_text before left0 w0 (Err fault) after left w → BrokenAnew left0 w0 left w
-  broken_anew fault s = inl (fault, at_desk after, (seen (Err fault) s).broken)
+  pub broken_anew : (fault : StreamFault) → IsServed AnswersMessage end_text before left0 w0 (Err fault) after left w → BrokenAnew left0 w0 left w
+  broken_anew fault s = inl (fault, after, (anew (Err fault) s).broken)

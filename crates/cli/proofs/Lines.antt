@@ -1,5 +1,5 @@
 -- What was done at a file is an outcome of the task, of the line, and of the words.
-use Rattle.std.proofs.Common.{◌≡◌, inl, inr, ℕ, List, string_bytes, Some, None, Result, Ok, Err, MatchResult}
+use Rattle.std.proofs.Common.{◌≡◌, inl, inr, ℕ, List, string_bytes, Some, None, Result, Ok, Err, MatchResult, subst}
 use Rattle.sqlite_disk.specs.declared.Disk.{Ghosts}
 use Rattle.sqlite_wal.specs.Recovery.{Image}
 use Rattle.sqlite.specs.Files.{over_files}
@@ -12,7 +12,7 @@ use Rattle.commands.specs.Reading.{IsAnswer}
 use Rattle.cli.specs.declared.tasks.Task.{Task}
 use Rattle.cli.specs.declared.tasks.Task.TheVariants as task
 use Rattle.cli.specs.Outputs.{Both}
-use Rattle.cli.specs.Outcomes.{ComesTo, ImportsFile, IsUnreadFile, MayCome, MayDo, Outcome, Tells, refused}
+use Rattle.cli.specs.Outcomes.{ComesTo, ImportsFile, IsUnreadFile, MayCome, MayDo, MayDoAt, OfDatabase, Outcome, Tells, refused}
 use Rattle.cli.specs.Databases.{AskedAt, Came, CommandAt, DoneAt, LineAt, WordsAt}
 use Rattle.cli.proofs.Imports.{imports_file}
 use Rattle.cli.proofs.Opened.{may_do}
@@ -23,22 +23,36 @@ unopened : (done : Task) (o : Outcome) → IsUnreadFile o → MayDo done o
 unopened done o (inl memory) = inl (inl memory)
 unopened done o (inr storage) = inl (inr (inl storage))
 
-module _ {D : Type 0} {g : Ghosts D} {O E : Type 0} (image : Image) where
-  done_comes : (done : Task) (came : Came D g) (old new : Both O E) (status : ℕ) → DoneAt image done came old new status → Tells (MayDo done) old new status
-  done_comes done (Some came) old new status at = tells_more _ (MayDo done) (λ o is. may_do over_files done at.first at.last o is) _ _ _ at.told
-  done_comes done None old new status at = tells_more IsUnreadFile (MayDo done) (unopened done) _ _ _ at
+-- what is printed of a database is printed of one that may be new
+may_be : (name : List ℕ) (IsNew : Type 0) (done : Task) (Is : Outcome → Type 0) → ((o : Outcome) → Is o → MayDo done o) → (o : Outcome) → OfDatabase name IsNew Is o → MayDoAt name done o
+may_be name IsNew done Is may o (inl is) = inl (is.1, may is.1 is.2, is.3)
+may_be name IsNew done Is may o (inr is) = inr (may o is.1)
 
-  asked_comes : (made : Result Request Refusal) (came : Came D g) (old new : Both O E) (status : ℕ) → AskedAt image made came old new status
-      → Tells (λ o. MatchResult made (λ asked. MayDo (task.Ask asked) o) (λ refusal. o ≡ refused refusal)) old new status
-  asked_comes (Ok asked) came old new status at = done_comes (task.Ask asked) came old new status at
-  asked_comes (Err refusal) came old new status at = at.1
+module _ {D : Type 0} {g : Ghosts D} {O E : Type 0} (image : Image) (a b : List ℕ) where
+  -- what was done at a file with a name was done at one with the same name
+  pub done_named : (done : Task) (came : Came D g) (old new : Both O E) (status : ℕ) → a ≡ b → DoneAt image a done came old new status → DoneAt image b done came old new status
+  done_named done came old new status same at = subst (λ (name : List ℕ). DoneAt image name done came old new status) same at
+
+  pub asked_named : (made : Result Request Refusal) (came : Came D g) (old new : Both O E) (status : ℕ) → a ≡ b → AskedAt image a made came old new status → AskedAt image b made came old new status
+  asked_named made came old new status same at = subst (λ (name : List ℕ). AskedAt image name made came old new status) same at
+
+module _ {D : Type 0} {g : Ghosts D} {O E : Type 0} (image : Image) where
+  done_comes : (name : List ℕ) (done : Task) (came : Came D g) (old new : Both O E) (status : ℕ) → DoneAt image name done came old new status → Tells (MayDoAt name done) old new status
+  done_comes name done (Some came) old new status at =
+      tells_more _ (MayDoAt name done) (may_be name _ done _ (λ o is. may_do over_files done at.first at.last o is)) _ _ _ at.told
+  done_comes name done None old new status at = tells_more IsUnreadFile (MayDoAt name done) (λ o is. inr (unopened done o is)) _ _ _ at
+
+  asked_comes : (name : List ℕ) (made : Result Request Refusal) (came : Came D g) (old new : Both O E) (status : ℕ) → AskedAt image name made came old new status
+      → Tells (λ o. MatchResult made (λ asked. MayDoAt name (task.Ask asked) o) (λ refusal. o ≡ refused refusal)) old new status
+  asked_comes name (Ok asked) came old new status at = done_comes name (task.Ask asked) came old new status at
+  asked_comes name (Err refusal) came old new status at = at.1
 
   line_comes : (l : Line) (came : Came D g) (old new : Both O E) (status : ℕ) → LineAt image l came old new status → Tells (MayCome l) old new status
   line_comes (line.Import database kind id file) came old new status at =
-      tells_more _ (ImportsFile (string_bytes id) kind) (λ o is. imports_file (string_bytes id) kind at.0 o at.1 is) _ _ _ (asked_comes at.0 came old new status at.2)
+      tells_more _ (ImportsFile (string_bytes database) (string_bytes id) kind) (λ o is. imports_file (string_bytes database) (string_bytes id) kind at.0 o at.1 is) _ _ _ (asked_comes (string_bytes database) at.0 came old new status at.2)
   line_comes (line.Solve file) came old new status at = at.1
   line_comes (line.Check file) came old new status at = at.1
-  line_comes _ came old new status at = done_comes _ came old new status at
+  line_comes _ came old new status at = done_comes _ _ came old new status at
 
   command_comes : (words : List (List ℕ)) (command : Result Line LineFault) (came : Came D g) (old new : Both O E) (status : ℕ) → IsAnswer words command
       → CommandAt image command came old new status → Tells (ComesTo words) old new status

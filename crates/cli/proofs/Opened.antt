@@ -62,8 +62,8 @@ module _ {S : Type 0} (ghosts : Ghosts S) where
   comes_of : (done : Task) (before after : DeskState S) (o : Outcome) → ComesFrom ghosts done before after o → ComesOf done (at_desk before) (at_desk after) o
   comes_of (task.Ask asked) before after o from = record {
     answer = from.0;
-    step = from.1.gets.step;
-    told = from.1.gets.right;
+    step = from.1.gets.gives.step;
+    told = from.1.gets.gives.right;
     at_once = at_once before.office asked from.0 from.1.gets.at_once.round from.1.gets.at_once.repeated;
     is = from.2;
   }
@@ -96,4 +96,5 @@ pub of_file : {D : Type 0} {g : disk.Ghosts D} (image : Image) (first : Held (Fi
     → (HasCleanDisk (file_state first) → IsOpened first) → (office : State) → IsFoundFor (file_state first) after office → HasCleanDisk after → IsOfficeIn image office
 of_file image first after found opened office is clean db holds =
     let it = is clean in
-    ((file_state first).now, ap (λ (d : Database). d.trees) (opened it.0).0.clean ∙ (found it.0).holds db holds, it.1)
+    let open = opened it.0 in
+    ((file_state first).now, (open.1 open.0.is_open).0, ap (λ (d : Database). d.trees) open.0.clean ∙ (found it.0).holds db holds, it.1)

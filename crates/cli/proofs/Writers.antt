@@ -15,7 +15,8 @@ use Rattle.web.specs.Connections.{AllServed, lines_after}
 use Rattle.wire.specs.Run.{MessageText}
 use Rattle.round_files.specs.declared.rounds.Trouble.{Trouble}
 use Rattle.round_files.specs.declared.rounds.Trouble.TheVariants.{Refused}
-use Rattle.cli.specs.Outcomes.{OnFile, Outcome, of_round, prints, refused, refusal_line, named_line, listening, IsUnreadFile, IsServed}
+use Rattle.cli.specs.Outputs.{Both, HasTold, Output, both_failures}
+use Rattle.cli.specs.Outcomes.{OfDatabase, OnFile, Outcome, Tells, behind, of_round, prints, refused, refusal_line, named_line, new_database, listening, IsUnreadFile, IsServed}
 use Rattle.cli.specs.Inside.Outcomes.{Serves}
 
 -- what the two writers took, and how many of their calls failed
@@ -54,6 +55,16 @@ pub err_told : {A E : Type 0} (Of : A → Outcome → Type 0) (At : E → Outcom
     → TellsOf (λ o. At e o) old new status → TellsOf (λ o. MatchResult came (λ a. Of a o) (λ e. At e o)) old new status
 err_told Of At came e is old new status told =
     tells_more (λ o. At e o) (λ o. MatchResult came (λ a. Of a o) (λ e. At e o)) (λ o at. at_err (λ a. Of a o) (λ e. At e o) came e is at) old new status told
+
+-- what comes of a database that is new is printed after its name
+pub told_new : {O E : Type 0} (name : List ℕ) (IsNew : Type 0) (Is : Outcome → Type 0) → IsNew → (old mid new : Both O E) (status : ℕ) → HasTold (new_database name) old mid → Tells Is mid new status
+    → Tells (OfDatabase name IsNew Is) old new status
+told_new {O} {E} name IsNew Is is_new old mid new status has (inl t) =
+    let counted : both_failures mid ≡ both_failures old = ap (λ (out : Output O). out.failures + mid.err.failures) has.out ∙ ap (λ n. old.out.failures + n) has.failures in
+    inl (behind (new_database name) t.0, inl (is_new, t.0, t.1, refl), t.2 ∙ counted, subst (λ (out : Output O). Appends out.written new.out.written t.0.out) has.out t.3, appends_compose old.err.written mid.err.written new.err.written _ _ has.written t.4, t.5)
+told_new {O} {E} name IsNew Is is_new old mid new status has (inr failed) =
+    let counted : both_failures mid ≡ both_failures old = ap (λ (out : Output O). out.failures + mid.err.failures) has.out ∙ ap (λ n. old.out.failures + n) has.failures in
+    inr (failed.0 ∙ ap (λ n. n + 1) counted, failed.1)
 
 -- where a refusal is printed the status is 1
 pub refused_ends : (r : Refusal) (old new : Took) (status : ℕ) → TellsOf (λ o. o ≡ refused r) old new status → status ≡ 1

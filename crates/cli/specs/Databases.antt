@@ -8,7 +8,7 @@ use Rattle.sqlite_trees.specs.View.{IsClean}
 use Rattle.sqlite_store.specs.declared.store.FileStore.{FileStore}
 use Rattle.sqlite_store.specs.FileStore.{view}
 use Rattle.sqlite.specs.declared.error.Error.{Error}
-use Rattle.sqlite.specs.Effect.{Database}
+use Rattle.sqlite.specs.Effect.{Database, IsDatabase}
 use Rattle.sqlite.specs.State.{State as Seen, HasCleanDisk}
 use Rattle.sqlite.specs.Held.{Held, state}
 use Rattle.sqlite.specs.Files.{HoldsDatabase, IsBlankAs, IsClosed, IsOpened, FailsToClose, file_state, over_files}
@@ -47,7 +47,7 @@ use Rattle.cli.specs.declared.tasks.Task.{Task}
 use Rattle.cli.specs.declared.tasks.Task.TheVariants as task
 use Rattle.cli.specs.Outputs.{Both}
 use Rattle.cli.specs.Imports.{IsImportOfFile}
-use Rattle.cli.specs.Outcomes.{IsUnreadFile, MayComeOf, OnFile, Outcome, ServesAt, Tells, of_answer, refused}
+use Rattle.cli.specs.Outcomes.{IsUnreadFile, MayComeOf, OfDatabase, OnFile, Outcome, ServesAt, Tells, of_answer, refused}
 
 -- a disk that is clean after a task was clean before it
 abbrev pub WasClean : Seen → Seen → Type 0
@@ -119,6 +119,10 @@ module _ {S : Type 0} (ghosts : Ghosts S) where
   LeftBy done status first last =
       IsDone (TakesTo done) first last ⊎ ((status ≡ 1) × StaysSo (state ghosts first) (state ghosts last))
 
+  -- what is printed of a task at the database with this name: the name first, where none of the tables is there yet, then what it comes to
+  abbrev pub TellsOver : List ℕ → Task → Held S → Held S → Outcome → Type 0
+  TellsOver name done first last = OfDatabase name (HasNone (state ghosts first).now.schema) (DoesOver done first last)
+
 -- What comes of closing a database file: the last commit is in the file alone, or memory ran out or the disk failed, and the two
 -- files hold it as before.
 pub record IsClosing {D : Type 0} {g : disk.Ghosts D} (last : Held (FileStore D g)) (came : Result (Files D) (Error × FileStore D g)) : Type 0 where
@@ -127,46 +131,46 @@ pub record IsClosing {D : Type 0} {g : disk.Ghosts D} (last : Held (FileStore D 
 
 -- the office that the one database stands for which these first contents hold
 abbrev pub IsOfficeIn : Image → State → Type 0
-IsOfficeIn image office = (db : Trees) → HoldsDatabase image db → (it : Database) × (it.trees ≡ db) × IsOfficeOf it office
+IsOfficeIn image office = (db : Trees) → HoldsDatabase image db → (it : Database) × IsDatabase it × (it.trees ≡ db) × IsOfficeOf it office
 
 -- what came of closing a database file, where one was opened
 abbrev pub Came : (D : Type 0) → disk.Ghosts D → Type 0
 Came D g = Option (Result (Files D) (Error × FileStore D g))
 
--- A database file with these first contents was opened, a task was done over it, printed and left, and the file was closed, which came to
--- this. The office that was found is the one of the file.
-pub record DoneOver {D : Type 0} {g : disk.Ghosts D} {O E : Type 0} (image : Image) (done : Task) (came : Result (Files D) (Error × FileStore D g))
-    (old new : Both O E) (status : ℕ) : Type 0 where
+-- A database file with this name and these first contents was opened, a task was done over it, printed and left, and the file was closed,
+-- which came to this. The office that was found is the one of the file.
+pub record DoneOver {D : Type 0} {g : disk.Ghosts D} {O E : Type 0} (image : Image) (name : List ℕ) (done : Task)
+    (came : Result (Files D) (Error × FileStore D g)) (old new : Both O E) (status : ℕ) : Type 0 where
   pub first : Held (FileStore D g)
   pub last : Held (FileStore D g)
   pub found : HasCleanDisk (file_state first) → FindsIn image (file_state first)
   pub opened : HasCleanDisk (file_state first) → IsOpened first
   pub plain : HasCleanDisk (file_state first) → IsBlankAs false image → (view first.store).has_sums ≡ false
   pub of_file : (office : State) → IsFoundFor (file_state first) (file_state last) office → HasCleanDisk (file_state last) → IsOfficeIn image office
-  pub told : Tells (DoesOver over_files done first last) old new status
+  pub told : Tells (TellsOver over_files name done first last) old new status
   pub left : LeftBy over_files done status first last
   pub closing : IsClosing last came
 
 module _ {D : Type 0} {g : disk.Ghosts D} {O E : Type 0} (image : Image) where
-  -- a task was done over the file, or it could not be opened
-  abbrev pub DoneAt : Task → Came D g → Both O E → Both O E → ℕ → Type 0
-  DoneAt done (Some came) old new status = DoneOver image done came old new status
-  DoneAt done None old new status = Tells IsUnreadFile old new status
+  -- a task was done over the file with this name, or it could not be opened
+  abbrev pub DoneAt : List ℕ → Task → Came D g → Both O E → Both O E → ℕ → Type 0
+  DoneAt name done (Some came) old new status = DoneOver image name done came old new status
+  DoneAt name done None old new status = Tells IsUnreadFile old new status
 
-  -- what was made of an import file was asked over the file, or was refused, and nothing was opened
-  abbrev pub AskedAt : Result Request Refusal → Came D g → Both O E → Both O E → ℕ → Type 0
-  AskedAt (Ok asked) came old new status = DoneAt (task.Ask asked) came old new status
-  AskedAt (Err refusal) came old new status = (came ≡ None) × Tells (λ o. o ≡ refused refusal) old new status
+  -- what was made of an import file was asked over the file with this name, or was refused, and nothing was opened
+  abbrev pub AskedAt : List ℕ → Result Request Refusal → Came D g → Both O E → Both O E → ℕ → Type 0
+  AskedAt name (Ok asked) came old new status = DoneAt name (task.Ask asked) came old new status
+  AskedAt name (Err refusal) came old new status = (came ≡ None) × Tells (λ o. o ≡ refused refusal) old new status
 
   -- a line was done at the database file that it names, if it names one
   abbrev pub LineAt : Line → Came D g → Both O E → Both O E → ℕ → Type 0
-  LineAt (line.Serve database port count) came old new status = DoneAt (task.Serve (record { port = port; count = count })) came old new status
+  LineAt (line.Serve database port count) came old new status = DoneAt (string_bytes database) (task.Serve (record { port = port; count = count })) came old new status
   LineAt (line.Import database kind id file) came old new status =
-      (made : Result Request Refusal) × IsImportOfFile (string_bytes id) kind made × AskedAt made came old new status
-  LineAt (line.OpenRound database aim) came old new status = DoneAt (task.Ask (request.Plain (plain.OpenRound aim))) came old new status
-  LineAt (line.ReopenRound database) came old new status = DoneAt (task.Ask (request.Plain plain.ReopenRound)) came old new status
-  LineAt (line.CloseRound database) came old new status = DoneAt (task.Ask request.Close) came old new status
-  LineAt (line.Report database kind round) came old new status = DoneAt (task.Ask (request.Report kind round)) came old new status
+      (made : Result Request Refusal) × IsImportOfFile (string_bytes id) kind made × AskedAt (string_bytes database) made came old new status
+  LineAt (line.OpenRound database aim) came old new status = DoneAt (string_bytes database) (task.Ask (request.Plain (plain.OpenRound aim))) came old new status
+  LineAt (line.ReopenRound database) came old new status = DoneAt (string_bytes database) (task.Ask (request.Plain plain.ReopenRound)) came old new status
+  LineAt (line.CloseRound database) came old new status = DoneAt (string_bytes database) (task.Ask request.Close) came old new status
+  LineAt (line.Report database kind round) came old new status = DoneAt (string_bytes database) (task.Ask (request.Report kind round)) came old new status
   LineAt (line.Solve file) came old new status = (came ≡ None) × Tells (OnFile IsSolved) old new status
   LineAt (line.Check file) came old new status = (came ≡ None) × Tells (OnFile IsChecked) old new status
 

@@ -96,6 +96,22 @@ abbrev pub of_answer : Result Reply Refusal → Outcome
 of_answer (Ok answer) = prints (printed_reply answer)
 of_answer (Err refusal) = refused refusal
 
+-- the line of a database that is new: none of the office's tables is there yet
+abbrev pub new_database : List ℕ → List ℕ
+new_database name = codes "new " ++ name ++ 10 ∷ []
+
+-- an outcome that prints this line first
+abbrev pub behind : List ℕ → Outcome → Outcome
+behind line o = record { out = o.out; err = line ++ o.err; status = o.status }
+
+-- what comes of a database with this name, after the line of one that is new where it is
+abbrev pub OfDatabase : List ℕ → Type 0 → (Outcome → Type 0) → Outcome → Type 0
+OfDatabase name IsNew Is o = (IsNew × (told : Outcome) × Is told × (o ≡ behind (new_database name) told)) ⊎ ((IsNew → ⊥) × Is o)
+
+-- the same of a database that may be new
+abbrev pub MayBeNew : List ℕ → (Outcome → Type 0) → Outcome → Type 0
+MayBeNew name Is o = ((told : Outcome) × Is told × (o ≡ behind (new_database name) told)) ⊎ Is o
+
 -- a file could not be read: memory ran out for it, or it is refused
 abbrev pub IsUnreadFile : Outcome → Type 0
 IsUnreadFile o = (o ≡ refused no.Memory) ⊎ (o ≡ refused no.Storage)
@@ -150,24 +166,28 @@ ComesOf (task.Serve serving) before after o = ServesAt AnswersMessage serving.po
 abbrev pub MayDo : Task → Outcome → Type 0
 MayDo task o = IsUnopened o ⊎ ((office : State) × IsFit office × (after : AtDesk) × ComesOf task (just_opened office) after o)
 
+-- what a task at the database with this name may come to
+abbrev pub MayDoAt : List ℕ → Task → Outcome → Type 0
+MayDoAt name task o = MayBeNew name (MayDo task) o
+
 -- a line that imports these bytes: there are too many, or memory ran out, or what comes of the import
-abbrev pub IsImportLine : List ℕ → ImportKind → List ℕ → Outcome → Type 0
-IsImportLine id kind bytes o =
+abbrev pub IsImportLine : List ℕ → List ℕ → ImportKind → List ℕ → Outcome → Type 0
+IsImportLine name id kind bytes o =
     ((MOST_IMPORT_BYTES < length bytes) × (o ≡ refused no.TooLarge))
-    ⊎ ((length bytes ≤ MOST_IMPORT_BYTES) × ((o ≡ refused no.Memory) ⊎ MayDo (task.Ask (request.Import id kind bytes)) o))
+    ⊎ ((length bytes ≤ MOST_IMPORT_BYTES) × ((o ≡ refused no.Memory) ⊎ MayDoAt name (task.Ask (request.Import id kind bytes)) o))
 
 -- a line that imports a file: it could not be read, or what comes of importing its bytes
-abbrev pub ImportsFile : List ℕ → ImportKind → Outcome → Type 0
-ImportsFile id kind o = IsUnreadFile o ⊎ ((bytes : List ℕ) × IsImportLine id kind bytes o)
+abbrev pub ImportsFile : List ℕ → List ℕ → ImportKind → Outcome → Type 0
+ImportsFile name id kind o = IsUnreadFile o ⊎ ((bytes : List ℕ) × IsImportLine name id kind bytes o)
 
 -- what a line may come to
 abbrev pub MayCome : Line → Outcome → Type 0
-MayCome (line.Serve database port count) o = MayDo (task.Serve (record { port = port; count = count })) o
-MayCome (line.Import database kind id file) o = ImportsFile (string_bytes id) kind o
-MayCome (line.OpenRound database aim) o = MayDo (task.Ask (request.Plain (plain.OpenRound aim))) o
-MayCome (line.ReopenRound database) o = MayDo (task.Ask (request.Plain plain.ReopenRound)) o
-MayCome (line.CloseRound database) o = MayDo (task.Ask request.Close) o
-MayCome (line.Report database kind round) o = MayDo (task.Ask (request.Report kind round)) o
+MayCome (line.Serve database port count) o = MayDoAt (string_bytes database) (task.Serve (record { port = port; count = count })) o
+MayCome (line.Import database kind id file) o = ImportsFile (string_bytes database) (string_bytes id) kind o
+MayCome (line.OpenRound database aim) o = MayDoAt (string_bytes database) (task.Ask (request.Plain (plain.OpenRound aim))) o
+MayCome (line.ReopenRound database) o = MayDoAt (string_bytes database) (task.Ask (request.Plain plain.ReopenRound)) o
+MayCome (line.CloseRound database) o = MayDoAt (string_bytes database) (task.Ask request.Close) o
+MayCome (line.Report database kind round) o = MayDoAt (string_bytes database) (task.Ask (request.Report kind round)) o
 MayCome (line.Solve file) o = OnFile IsSolved o
 MayCome (line.Check file) o = OnFile IsChecked o
 

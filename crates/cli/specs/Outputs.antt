@@ -1,5 +1,6 @@
 -- What a line writes to, as contracts see it.
-use Rattle.std.specs.Prelude.{ℕ, ◌+◌, ◌-◌, ◌^◌, ◌<◌, List, Option}
+use Rattle.std.specs.Prelude.{◌≡◌, ℕ, ◌+◌, ◌-◌, ◌^◌, ◌<◌, List, Option}
+use Rattle.std.specs.Io.KnownBytes.{Appends}
 
 -- a writer, what it has taken where that is known, and how many of its calls failed
 pub record Output (W : Type 0) : Type 0 where
@@ -19,3 +20,9 @@ CanFail outputs = (outputs.out.failures < 2 ^ 64 - 1) × (outputs.err.failures <
 -- how many calls of the two failed
 abbrev pub both_failures : {O E : Type 0} → Both O E → ℕ
 both_failures outputs = outputs.out.failures + outputs.err.failures
+
+-- this was written on standard error, and nothing else was done
+pub record HasTold {O E : Type 0} (text : List ℕ) (old new : Both O E) : Type 0 where
+  pub out : new.out ≡ old.out
+  pub failures : new.err.failures ≡ old.err.failures
+  pub written : Appends old.err.written new.err.written text

@@ -3,7 +3,7 @@
 ghost use Rattle.sqlite.specs.Files.{over_files};
 ghost use Rattle.cli.specs.Outputs.{CanFail};
 ghost use Rattle.cli.specs.Outcomes.{Tells};
-ghost use Rattle.cli.specs.Databases.{DoesOver, LeftBy, IsClosing};
+ghost use Rattle.cli.specs.Databases.{DoesOver, TellsOver, LeftBy, IsClosing};
 
 use crate::opening::{Closing, close_file};
 use crate::outputs::Outputs;
@@ -12,6 +12,7 @@ use desk::Desk;
 use sqlite::{Alter, Connection, FileStore};
 use sqlite_disk::Disk;
 use std::rt::HostRuntime;
+use store::has_none;
 use web::Sink;
 
 /// Does a task at the office of a database, or prints the refusal of its opening, and gives the connection back.
@@ -44,9 +45,33 @@ fn do_over<S: Alter + Drop, O: Sink, E: Sink>(
     }
 }
 
+/// Does the same at the office of a database with this name, which is printed first where none of the tables is there yet. Where that
+/// cannot be printed, nothing is done.
+fn do_named<S: Alter + Drop, O: Sink, E: Sink>(
+    rt: &HostRuntime,
+    name: &str,
+    connection: Connection<S>,
+    task: Task,
+    outputs: &mut Outputs<O, E>,
+) -> (u8, Connection<S>)
+    requires { CanFail outputs.old }
+    ensures told { Tells (TellsOver S.Store name.now task connection result.1) outputs.old outputs.new result.0 }
+    ensures left { LeftBy S.Store task result.0 connection result.1 }
+{
+    if !has_none(connection.schema()) {
+        return do_over(rt, connection, task, outputs);
+    }
+    let Ok(()) = outputs.tell_new(name) else {
+        drop(task);
+        return (1, connection);
+    };
+    do_over(rt, connection, task, outputs)
+}
+
 /// Does the same at the office of a database file, which is closed then: its log is copied into it.
 pub(crate) fn do_and_close<D: Disk + Drop, O: Sink, E: Sink>(
     rt: &HostRuntime,
+    name: &str,
     connection: Connection<FileStore<D>>,
     task: Task,
     outputs: &mut Outputs<O, E>,
@@ -54,8 +79,8 @@ pub(crate) fn do_and_close<D: Disk + Drop, O: Sink, E: Sink>(
     requires { CanFail outputs.old }
 
     // One connection shows what was printed and what is left, and it is the one that was closed.
-    ensures { (last : _) × Tells (DoesOver over_files task connection last) outputs.old outputs.new result.0 × LeftBy over_files task result.0 connection last × IsClosing last result.1 }
+    ensures { (last : _) × Tells (TellsOver over_files name.now task connection last) outputs.old outputs.new result.0 × LeftBy over_files task result.0 connection last × IsClosing last result.1 }
 {
-    let (status, connection) = do_over(rt, connection, task, outputs);
+    let (status, connection) = do_named(rt, name, connection, task, outputs);
     (status, close_file(connection))
 }

@@ -82,7 +82,7 @@ pub(crate) fn ask_made<S: Start, O: Sink, E: Sink>(
     outputs: &mut Outputs<O, E>,
 ) -> (u8, Option<Closing<FileFrom<S>>>)
     requires { CanFail outputs.old }
-    ensures { AskedAt (image_at S.Start) made result.1 outputs.old outputs.new result.0 }
+    ensures { AskedAt (image_at S.Start) database.now made result.1 outputs.old outputs.new result.0 }
 {
     match made {
         Ok(asked) => do_on(rt, start, database, Task::Ask(asked), outputs),

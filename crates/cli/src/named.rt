@@ -13,7 +13,7 @@ use std::rt::HostRuntime;
 use web::Sink;
 
 /// Does a task at the office of the database file with this name, whose first contents these are, or prints the refusal of the opening.
-/// Closes the file then, and gives back what came of it.
+/// Prints first that the database is new, where it is. Closes the file then, and gives back what came of it.
 ///
 /// A closing that fails changes neither what was printed nor the status: what was changed is in the log next to the file, where
 /// the next opening finds it.
@@ -25,11 +25,11 @@ pub(crate) fn do_on<S: Start, O: Sink, E: Sink>(
     outputs: &mut Outputs<O, E>,
 ) -> (u8, Option<Closing<FileFrom<S>>>)
     requires { CanFail outputs.old }
-    ensures { DoneAt (image_at S.Start) task result.1 outputs.old outputs.new result.0 }
+    ensures { DoneAt (image_at S.Start) database.now task result.1 outputs.old outputs.new result.0 }
 {
     match open_file(rt, database, start) {
         Ok(connection) => {
-            let (status, closing) = do_and_close(rt, connection, task, outputs);
+            let (status, closing) = do_and_close(rt, database, connection, task, outputs);
             (status, Some(closing))
         }
         Err(refusal) => {

@@ -1,13 +1,13 @@
 //! What a line writes to: standard output and standard error.
 
-ghost use Rattle.std.specs.Prelude.{◌≡◌, []};
-ghost use Rattle.cli.specs.Outputs.{CanFail};
-ghost use Rattle.cli.specs.Outcomes.{Tells, tells, prints, refused, printed_reply};
+ghost use Rattle.std.specs.Prelude.{◌≡◌, ◌+◌, [], OnOk, OnErr};
+ghost use Rattle.cli.specs.Outputs.{CanFail, HasTold, both_failures};
+ghost use Rattle.cli.specs.Outcomes.{Tells, tells, prints, refused, new_database, printed_reply};
 
-use crate::printing::{print, print_reply, refuse};
+use crate::printing::{print, print_reply, refuse, write_new};
 use rolls::{Refusal, Reply};
 use std::marker::Model;
-use web::Sink;
+use web::{Sink, StreamFault};
 
 /// The writers of results and of messages.
 #[derive(Drop)]
@@ -58,6 +58,15 @@ impl<O: Sink, E: Sink> Outputs<O, E> {
         ensures { Tells (λ o. o ≡ tells status text.now) self.old self.new result }
     {
         print(&mut self.err, text, status)
+    }
+
+    /// Prints that the database with this name is new.
+    pub(crate) fn tell_new(&mut self, name: &str) -> Result<(), StreamFault>
+        requires { CanFail self.old }
+        ensures ok { OnOk result (HasTold (new_database name.now) self.old self.new) }
+        ensures err { OnErr result (both_failures self.new ≡ both_failures self.old + 1) }
+    {
+        write_new(&mut self.err, name)
     }
 
     /// Prints a refusal.

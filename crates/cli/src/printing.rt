@@ -1,14 +1,15 @@
 //! What is printed on standard output or standard error, and the status.
 
-ghost use Rattle.std.specs.Prelude.{◌≡◌, ◌-◌, ◌^◌, ◌<◌};
+ghost use Rattle.std.specs.Prelude.{◌≡◌, ◌-◌, ◌^◌, ◌<◌, ◌+◌, OnOk, OnErr};
+ghost use Rattle.std.specs.Io.KnownBytes.{Appends};
 ghost use Rattle.cli.specs.Outputs.{CanFail};
-ghost use Rattle.cli.specs.Outcomes.{Printed, Tells, refusal_line, of_round, printed_reply};
+ghost use Rattle.cli.specs.Outcomes.{Printed, Tells, new_database, refusal_line, of_round, printed_reply};
 
 use crate::outputs::Outputs;
 use crate::texts::{bad_line, closed_line, labelled, refusal_line};
 use rolls::{Refusal, Reply};
 use round_files::Trouble;
-use web::{Sink, write_all};
+use web::{Sink, StreamFault, write_all};
 
 /// Writes a text, and gives the status, or 1 where it could not be written.
 pub(crate) fn print<W: Sink>(out: &mut W, text: &[u8], status: u8) -> u8
@@ -27,6 +28,17 @@ pub(crate) fn refuse<W: Sink>(err: &mut W, refusal: Refusal) -> u8
     ensures { Printed (refusal_line refusal) 1 (W.written err.old) (W.written err.new) (W.failures err.old) (W.failures err.new) result }
 {
     print(err, refusal_line(refusal).as_slice(), 1)
+}
+
+/// Writes the name of a database that is new. A name has any length, so nothing is allocated for it.
+pub(crate) fn write_new<W: Sink>(err: &mut W, name: &str) -> Result<(), StreamFault>
+    requires { W.failures err.old < 2 ^ 64 - 1 }
+    ensures ok { OnOk result ((W.failures err.new ≡ W.failures err.old) × Appends (W.written err.old) (W.written err.new) (new_database name.now)) }
+    ensures err { OnErr result (W.failures err.new ≡ W.failures err.old + 1) }
+{
+    write_all(err, b"new ")?;
+    write_all(err, name.as_bytes())?;
+    write_all(err, b"\n")
 }
 
 /// Writes what is printed of an answer.

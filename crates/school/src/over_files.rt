@@ -75,13 +75,13 @@ fn ask_over<S: Alter + Drop>(
     rt: &HostRuntime,
     connection: Connection<S>,
     rows: &str,
-) -> Result<(u32, Connection<S>), Unplayed> {
+) -> (Result<u32, Unplayed>, Connection<S>) {
     match Desk::open(rt.alloc(), connection) {
         Ok(mut desk) => {
-            let asked = ask_all(rt, &mut desk, rows)?;
-            Ok((asked, desk.into_connection()))
+            let asked = ask_all(rt, &mut desk, rows);
+            (asked, desk.into_connection())
         }
-        Err(_) => Err(Unplayed),
+        Err((_, connection)) => (Err(Unplayed), connection),
     }
 }
 
@@ -100,13 +100,13 @@ fn do_over<S: Alter + Drop>(
     mut connection: Connection<S>,
     over: Over,
     text: &str,
-) -> Result<(u32, Connection<S>), Unplayed> {
+) -> (Result<u32, Unplayed>, Connection<S>) {
     match over {
         Over::Asked => ask_over(rt, connection, text),
-        Over::Done => {
-            connection.execute_batch(text)?;
-            Ok((0, connection))
-        }
+        Over::Done => match connection.execute_batch(text) {
+            Ok(()) => (Ok(0), connection),
+            Err(_) => (Err(Unplayed), connection),
+        },
     }
 }
 
@@ -117,9 +117,11 @@ fn do_and_close<D: Disk + Drop>(
     over: Over,
     text: &str,
 ) -> Result<u32, Unplayed> {
-    let (count, connection) = do_over(rt, connection, over, text)?;
-    connection.close()?;
-    Ok(count)
+    let (count, connection) = do_over(rt, connection, over, text);
+    match connection.close() {
+        Ok(()) => count,
+        Err(_) => Err(Unplayed),
+    }
 }
 
 /// Does this over the database file with this name. The number of rows that were compared.

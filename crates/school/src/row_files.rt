@@ -1,5 +1,6 @@
 //! Rows, one after another.
 
+use crate::in_memory::{is_of_offices, play_offices};
 use crate::over_files::{Over, do_on};
 use crate::texts::{matches_cell, summed, written_out};
 use crate::unplayed::Unplayed;
@@ -142,15 +143,26 @@ fn play_paragraph(rt: &HostRuntime, rows: &str) -> Result<u32, Unplayed> {
     Ok(count)
 }
 
-/// Plays the rows of a file, which empty lines part, and prints how many were compared.
-pub(crate) fn play_file(rt: &HostRuntime, name: &str) -> Result<(), Unplayed> {
+/// Plays rows, which empty lines part. The number of rows that were compared.
+fn play_rows(rt: &HostRuntime, text: &str) -> Result<u32, Unplayed> {
     let mut count = 0u32;
-    for rows in fs::read_to_string(rt, name)?.split("\n\n") {
+    for rows in text.split("\n\n") {
         match play_paragraph(rt, rows) {
             Ok(more) => count = count.saturating_add(more),
             Err(_) => println!(rt; "{rows}\nis not played to its end")?,
         }
     }
+    Ok(count)
+}
+
+/// Plays the rows of a file, and prints how many were compared.
+pub(crate) fn play_file(rt: &HostRuntime, name: &str) -> Result<(), Unplayed> {
+    let text = fs::read_to_string(rt, name)?;
+    let count = if is_of_offices(&text) {
+        play_offices(rt, &text)
+    } else {
+        play_rows(rt, &text)?
+    };
     println!(rt; "{name} {count}")?;
     Ok(())
 }

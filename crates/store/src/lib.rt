@@ -7,7 +7,7 @@
 //! stand for none; a database with none of the tables gets them in one transaction; `save` makes changes in
 //! one transaction, and touches only the rows that they name; after a fault everything is as before; and each
 //! says what a crash leaves, which opens as the office that its tables stand for (`opening_law`). Other tables
-//! are left alone. Begin with `specs/Tables.antt`, then `store.rt`.
+//! are left alone. `has_none` says whether a database is new. Begin with `specs/Tables.antt`, then `store.rt`.
 //!
 //! A further table of rows is one of `TABLES` more; a further edition is an arm each in `edition.rt` and in
 //! `specs/Editions.antt`.
@@ -26,5 +26,6 @@ mod saving;
 mod store;
 
 pub use fault::StoreFault;
+pub use founding::has_none;
 pub use laws::opening_law;
 pub use store::Store;

@@ -16,7 +16,8 @@ fn shut(alloc: Global) -> Narrow {
     Narrow::new(Vec::new(alloc), 0, Some(io::ErrorKind::BrokenPipe))
 }
 
-// Lines that print a result, a failed check, help, a fault of the line, a bad line and a refusal, with the text of their file.
+// Lines that print a result, a failed check, help, a fault of the line, a bad line, a refusal and a new database, with the text of their
+// file.
 #[rattlefmt::skip]
 static PRINTING_LINES: &str =
     r#"spadesk solve round.txt   | S,L,5^nP,P,L,1^nP,Q,L,1^nP,Z,L,0^nC,A,P,Q^nC,C,Z,P^n
@@ -24,7 +25,8 @@ static PRINTING_LINES: &str =
        spadesk --help            |
        spadesk solve             |
        spadesk check round.txt   | S,L,05^n
-       spadesk check no-such.txt |"#;
+       spadesk check no-such.txt |
+       spadesk open-round new.db |"#;
 
 #[test]
 fn a_text_that_cannot_be_printed_has_status_1(rt: HostRuntime) -> Result<(), Fail> {

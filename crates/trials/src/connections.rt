@@ -184,7 +184,7 @@ fn compare_refusal(rt: &HostRuntime, database: &str, port: u16, want: &str) -> R
 fn a_port_that_is_taken_is_told(rt: HostRuntime) -> Result<(), Fail> {
     let listener = TcpListener::bind(&rt, (Ipv4Addr::LOCALHOST, 0))?;
     let port = listener.local_addr()?.port();
-    let no_port = format!(in rt.alloc(); "no port {port}\n")?;
+    let no_port = format!(in rt.alloc(); "new taken.db\nno port {port}\n")?;
     compare_refusal(&rt, "taken.db", port, &no_port)?;
     compare_refusal(&rt, "no-such-folder/taken.db", port, "refused 2: Storage\n")
 }

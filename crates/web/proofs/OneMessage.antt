@@ -21,7 +21,7 @@ use Rattle.tables.specs.Causes.{IsCaused}
 use Rattle.sqlite.specs.Held.{state}
 use Rattle.wire.specs.Run.{MessageText}
 use Rattle.api.specs.Texts.{IsRead, refusal_text, text_of}
-use Rattle.web.specs.Serving.{AnswersRequest, AnswersAt, AnswersFrom, AnswersMessage, AtDesk, Gets, GetsAt, at_desk}
+use Rattle.web.specs.Serving.{AnswersFrom, AnswersMessage, AnswersOffice, AnswersRead, AtDesk, Gets, GetsAt, Gives, at_desk}
 
 -- an answer that is the one of a change has no text of the office in it
 no_read : (a b : Reply) → a ≡ b → IsRead (Ok a) → IsRead (Ok b)
@@ -35,8 +35,7 @@ owes_none {A} found P none = subst (λ (o : Option A). IfSome o P) (sym none) tt
 wants_memory : (o n : AtDesk) (q : Request) → refusal_of o.office q ≡ None → ((number : ℕ) → q ≡ request.Plain (GetRound number) → ⊥) → repeated_rows o.office q ≡ None
     → (q ≡ request.Preview → ⊥) → n.office ≡ o.office → n.session ≡ o.session → Gets o q (Err Memory) n
 wants_memory o n q allowed no_round new no_preview stays kept = record {
-  step = (stays, inl refl);
-  right = record { named = owes_none (refusal_of o.office q) (λ r. Err Memory ≡ Err r) allowed; storage = λ is. cc; refused = λ is. cc };
+  gives = record { step = (stays, inl refl); right = record { named = owes_none (refusal_of o.office q) (λ r. Err Memory ≡ Err r) allowed; storage = λ is. cc; refused = λ is. cc } };
   at_once = record {
     round = λ number is _. absurd (no_round number is);
     repeated = λ _. owes_none (repeated_rows o.office q) (λ rows. Err Memory ≡ Ok (reply.Rows rows)) new;
@@ -62,24 +61,30 @@ text_wants o n request.RoundText a read allowed made goes = wants_memory o n _ a
 text_wants o n (request.Report kind round) a read allowed made goes = wants_memory o n _ allowed (λ number is. cc) refl (λ is. cc) made.1 goes
 text_wants o n (request.Import id kind bytes) a read allowed made goes = absurd (no_read a _ made.0 read)
 
+-- what is read of a message is answered as what is seen of it
+module _ {D S : Type 0} (see : D → S) (At : D → Request → Result Reply Refusal → D → Type 0) (Seen : S → Request → Result Reply Refusal → S → Type 0) (o n : D)
+    (seen : (q : Request) (a : Result Reply Refusal) → At o q a n → Seen (see o) q a (see n)) where
+  read_seen : (read : Result Request Refusal) (bytes : List ℕ) → AnswersRead At o read bytes n → AnswersRead Seen (see o) read bytes (see n)
+  read_seen (Ok q) bytes at = (at.0, seen q at.0 at.1, at.2)
+  read_seen (Err r) bytes at = (at.0, ap see at.1)
+
 module _ {S : Type 0} (ghosts : Ghosts S) where
   -- what a desk promises of a request is what the request gets
   pub gets_at : (o n : DeskState S) (q : Request) (a : Result Reply Refusal) → Step layers o.office q a n.office → IsToldRight o.office q a → AnswersAtOnce o.office o.session q a → GoesOn o.office q a o.session n.session
       → ((AreActedOn (state ghosts o.store).now.schema → ⊥) → IsCaused Storage (IsHinderedToAsk o.office q) a (state ghosts o.store) (state ghosts n.store)) → GetsAt ghosts o q a n
-  gets_at o n q a step right at_once goes cause = record { gets = record { step = step; right = right; at_once = at_once; goes = goes }; cause = cause }
+  gets_at o n q a step right at_once goes cause = record { gets = record { gives = record { step = step; right = right }; at_once = at_once; goes = goes }; cause = cause }
 
   -- a request that gets an answer is answered by its text, or as one that runs out of memory
   pub answered_from : (o n : DeskState S) (bytes : List ℕ) (q : Request) (a : Result Reply Refusal) → GetsAt ghosts o q a n
-      → (bytes ≡ text_of a) ⊎ (IsRead a × (bytes ≡ refusal_text Memory)) → AnswersAt ghosts o (Ok q) bytes n
+      → (bytes ≡ text_of a) ⊎ (IsRead a × (bytes ≡ refusal_text Memory)) → AnswersRead (GetsAt ghosts) o (Ok q) bytes n
   answered_from o n bytes q a at (inl told) = (a, at, told)
   answered_from o n bytes q (Ok reply) at (inr told) =
-      (Err Memory, record { gets = text_wants (at_desk o) (at_desk n) q reply told.0 at.gets.step.0 at.gets.step.1 at.gets.goes; cause = λ alone clean is. cc }, told.1)
+      (Err Memory, record { gets = text_wants (at_desk o) (at_desk n) q reply told.0 at.gets.gives.step.0 at.gets.gives.step.1 at.gets.goes; cause = λ alone clean is. cc }, told.1)
   answered_from o n bytes q (Err refused) at (inr told) = absurd told.0
 
-  -- a desk with its tables answers as what is seen of it
-  answers_seen : (o n : DeskState S) (read : Result Request Refusal) (bytes : List ℕ) → AnswersAt ghosts o read bytes n → AnswersRequest (at_desk o) read bytes (at_desk n)
-  answers_seen o n (Ok q) bytes at = (at.0, at.1.gets, at.2)
-  answers_seen o n (Err refusal) bytes at = (at.0, ap at_desk at.1)
-
+  -- a desk with its tables answers as what is seen of it, and as its office
   pub message_seen : (o : DeskState S) (words : MessageText) (bytes : List ℕ) (n : DeskState S) → AnswersFrom ghosts o words bytes n → AnswersMessage (at_desk o) words bytes (at_desk n)
-  message_seen o words bytes n from = (from.read, from.is_read, answers_seen o n from.read bytes from.answers)
+  message_seen o words bytes n from = (from.read, from.is_read, read_seen at_desk (GetsAt ghosts) Gets o n (λ q a at. at.gets) from.read bytes from.answers)
+
+  pub office_seen : (o : DeskState S) (words : MessageText) (bytes : List ℕ) (n : DeskState S) → AnswersFrom ghosts o words bytes n → AnswersOffice o.office words bytes n.office
+  office_seen o words bytes n from = (from.read, from.is_read, read_seen (λ desk. desk.office) (GetsAt ghosts) Gives o n (λ q a at. at.gets.gives) from.read bytes from.answers)

@@ -36,23 +36,35 @@ abbrev pub just_opened : State → AtDesk
 just_opened office = record { office = office; session = None }
 
 -- A step of the office, and its answer. A refusal by name is answered as itself, and a fault of the storage is answered to what changes the
--- office alone. What allocates nothing is answered, and the session goes on over the request.
+-- office alone.
+pub record Gives (before : State) (asked : Request) (answer : Result Reply Refusal) (after : State) : Type 0 where
+  pub step : Step layers before asked answer after
+  pub right : IsToldRight before asked answer
+
+-- The same at a desk. What allocates nothing is answered, and the session goes on over the request.
 pub record Gets (before : AtDesk) (asked : Request) (answer : Result Reply Refusal) (after : AtDesk) : Type 0 where
-  pub step : Step layers before.office asked answer after.office
-  pub right : IsToldRight before.office asked answer
+  pub gives : Gives before.office asked answer after.office
   pub at_once : AnswersAtOnce before.office before.session asked answer
   pub goes : GoesOn before.office asked answer before.session after.session
 
--- A request is answered by the text of the answer that it gets. What is no request leaves the office and the session, and its refusal is
--- the answer.
-abbrev pub AnswersRequest : AtDesk → Result Request Refusal → List ℕ → AtDesk → Type 0
-AnswersRequest before (Ok asked) bytes after = (answer : Result Reply Refusal) × Gets before asked answer after × (bytes ≡ text_of answer)
-AnswersRequest before (Err refusal) bytes after = (bytes ≡ refusal_text refusal) × (after ≡ before)
+module _ {D : Type 0} (Answered : D → Request → Result Reply Refusal → D → Type 0) where
+  -- A request is answered by the text of its answer. What is no request changes nothing, and its refusal is the answer.
+  abbrev pub AnswersRead : D → Result Request Refusal → List ℕ → D → Type 0
+  AnswersRead before (Ok asked) bytes after = (answer : Result Reply Refusal) × Answered before asked answer after × (bytes ≡ text_of answer)
+  AnswersRead before (Err refusal) bytes after = (bytes ≡ refusal_text refusal) × (after ≡ before)
 
--- A message is answered as what is read of it. So out of memory takes the place of its answer where reading it allocates, and
--- else only where it may be the answer of the request; never after a change.
+  -- A message is answered as what is read of it. So out of memory takes the place of its answer where reading it allocates, and
+  -- else only where it may be the answer of the request; never after a change.
+  abbrev pub AnswersBy : D → MessageText → List ℕ → D → Type 0
+  AnswersBy before said bytes after = (read : Result Request Refusal) × IsReadAs said read × AnswersRead before read bytes after
+
+-- a message is answered so by the office
+abbrev pub AnswersOffice : State → MessageText → List ℕ → State → Type 0
+AnswersOffice = AnswersBy Gives
+
+-- and at a desk
 abbrev pub AnswersMessage : AtDesk → MessageText → List ℕ → AtDesk → Type 0
-AnswersMessage before said bytes after = (read : Result Request Refusal) × IsReadAs said read × AnswersRequest before read bytes after
+AnswersMessage = AnswersBy Gets
 
 module _ {S : Type 0} (ghosts : Ghosts S) where
   -- the same where its tables are kept: a fault of the storage has its cause in them, unless a foreign key of another table acts there
@@ -61,16 +73,11 @@ module _ {S : Type 0} (ghosts : Ghosts S) where
     pub cause : (AreActedOn (state ghosts before.store).now.schema → ⊥)
         → IsCaused no.Storage (IsHinderedToAsk before.office asked) answer (state ghosts before.store) (state ghosts after.store)
 
-  -- a request is answered so, or what is no request
-  abbrev pub AnswersAt : DeskState S → Result Request Refusal → List ℕ → DeskState S → Type 0
-  AnswersAt before (Ok asked) bytes after = (answer : Result Reply Refusal) × GetsAt before asked answer after × (bytes ≡ text_of answer)
-  AnswersAt before (Err refusal) bytes after = (bytes ≡ refusal_text refusal) × (after ≡ before)
-
   -- a message is answered so, and a disk that is clean after it was clean before it
   pub record AnswersFrom (before : DeskState S) (said : MessageText) (bytes : List ℕ) (after : DeskState S) : Type 0 where
     pub read : Result Request Refusal
     pub is_read : IsReadAs said read
-    pub answers : AnswersAt before read bytes after
+    pub answers : AnswersRead GetsAt before read bytes after
     pub clean : HasCleanDisk (state ghosts after.store) → HasCleanDisk (state ghosts before.store)
 
 -- the refusal of an end that is answered: one that is not above a limit is a bad head

@@ -2,7 +2,7 @@
 ghost use Rattle.std.specs.Prelude.{◌≡◌, ◌-◌, ◌^◌, ◌+◌, ◌<◌, false};
 ghost use Rattle.wire.specs.Run.{read_failed, write_failed};
 ghost use Rattle.wire.specs.Served.{IsServed};
-ghost use Rattle.web.specs.Serving.{AnswersFrom, refusal_at, end_text};
+ghost use Rattle.web.specs.Serving.{AnswersFrom, AnswersMessage, AnswersOffice, at_desk, refusal_at, end_text};
 
 use api::{Routes, answer_of, refusal_answer};
 use desk::Desk;
@@ -56,10 +56,17 @@ pub fn serve_stream<S: Alter, R: Source, W: Sink>(
     requires open { R.ended reader.old ≡ false }
     requires write_failures { W.failures writer.old < 2 ^ 64 - 1 }
 
-    // What was written: the texts of the answers of a run over the messages of the stream, from the desk on, and the refusal that
-    // ends it. What was read and what the reader has left are the stream. After a fault a beginning of that: all answers but the
-    // last whole. A reader fails before the hundredth answer alone, so nothing is read after it.
-    ensures served { IsServed (AnswersFrom S.Store) end_text desk.old (R.left reader.old) (W.written writer.old) result
+    // What was written: the texts of the answers of a run of the office over the messages of the stream, and the refusal that ends it. What
+    // was read and what the reader has left are the stream. After a fault a beginning of that: all answers but the last whole. A reader
+    // fails before the hundredth answer alone, so nothing is read after it.
+    ensures served { IsServed AnswersOffice end_text desk.old.office (R.left reader.old) (W.written writer.old) result
+        desk.new.office (R.left reader.new) (W.written writer.new) }
+
+    // The same with the session, which says what allocates nothing, and over the tables, where each fault of the storage that is
+    // answered has its cause.
+    ensures session { IsServed AnswersMessage end_text (at_desk desk.old) (R.left reader.old) (W.written writer.old) result
+        (at_desk desk.new) (R.left reader.new) (W.written writer.new) }
+    ensures cause { IsServed (AnswersFrom S.Store) end_text desk.old (R.left reader.old) (W.written writer.old) result
         desk.new (R.left reader.new) (W.written writer.new) }
 
     // `Read` and `Write` come exactly where the reader's or the writer's count of failures grows.
