@@ -55,18 +55,18 @@ WORDS = [
     (r"\bmoods?\b", "say phase", BOTH),
     (r"\bthe rank of settling\b", "a rank is a pair's; of settling say turn", BOTH),
     (r"\b[Ww]ant of memory\b", "say out of memory", BOTH),
-    (r"\b(?:[Tt]akes?|[Tt]aking|[Ff]inds?|[Ff]ound) no memory\b|\bwants? memory\b", "say allocates nothing, or runs out of it", COMMENTS),
+    (r"\b(?:[Tt]akes?|[Tt]aking|[Ff]inds?|[Ff]ound) no memory\b|\bwants? memory\b", "say allocates nothing, or runs out of it", BOTH),
     (r"\b[Mm]emory (?:is|was) refused\b|\b[Rr]efused memory\b|\bgrowth of memory\b", "say an allocation fails", BOTH),
-    (r"\b[Tt]ables? [^.;:]*\b(?:is|are|was|were) (?:not )?raised\b|\b[Rr]ais(?:e|es|ing) (?:the|its) tables\b", "say migrate", COMMENTS),
+    (r"\b[Tt]ables? [^.;:]*\b(?:is|are|was|were) (?:not )?raised\b|\b[Rr]ais(?:e|es|ing) (?:the|its) tables\b", "say migrate", BOTH),
     (r"\b[Bb]ehind\b(?! a pointer)", "say after, or under", COMMENTS),
-    (r"\b[Bb]eside\b", "say next to", COMMENTS),
+    (r"(?<!/)\b[Bb]eside\b(?!/)", "say next to", BOTH),
     (r"\b[Aa]part\b", "say distinct, separate, or except for", COMMENTS),
     (r"\ball the same\b", "say still, or unchanged", BOTH),
     (r"\b[Ss]o many\b", "say which count it is", BOTH),
     (r"\bin turn\b", "say in order, or one after another", BOTH),
     (r"(?<![\w`*/])(?:[Tt]old|[Tt]ells?|[Tt]elling)\b(?![_.]\w)", "say returns, prints, writes, declares, decodes or names", COMMENTS),
-    (r"\bkept (?:session|import|number)s?\b|\b(?:session|import) (?:that )?is kept\b", "say cached, or stored of an import", COMMENTS),
-    (r"\bturns? (?:(?:the|their|its|no) )?rows?\b", "say transform", COMMENTS),
+    (r"\bkept (?:session|import|number)s?\b|\b(?:session|import) (?:that )?is kept\b", "say cached, or stored of an import", BOTH),
+    (r"\bturns? (?:(?:the|their|its|no) )?rows?\b", "say transform", BOTH),
 ]
 # the doc of a function that returns something, and how one begins that names a thing and no deed; a law returns nothing
 DOC = re.compile(r"(?:^ *///.*\n)+(?: *#\[.*\n)*(?= *(?:pub(?:\(crate\))? )?fn \w[^{;]*->)", re.MULTILINE)
