@@ -70,7 +70,7 @@ fn give(network: &mut Network, project: usize, supervisor: usize) {
     node.taken = node.taken.wrapping_sub(1);
 }
 
-/// Takes a student out of the project, if there is one, and returns it.
+/// Takes a student out of the project, if there is one, and returns the project.
 fn leave(network: &mut Network, student: usize) -> Option<usize> {
     let project = network.students[student].project?;
     network.students[student].project = None;

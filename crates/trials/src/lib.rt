@@ -22,7 +22,7 @@ mod desks;
 // A database that fails from some call on.
 #[cfg(test)]
 mod disks;
-// The calls of a file fail one after another, and a crash leaves what stands there.
+// Each call of a file fails, one after another, and a crash leaves what stands there.
 #[cfg(test)]
 mod failing;
 // Helper: what is done at a database over files that fail.
@@ -34,7 +34,7 @@ mod offices;
 // Helper: commands one after another, and what each prints.
 #[cfg(test)]
 mod printed;
-// The requests for memory are refused one after another.
+// Each allocation fails, one after another.
 #[cfg(test)]
 mod refused;
 // Where a desk caches a session, and what it returns.
