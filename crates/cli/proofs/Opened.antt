@@ -96,5 +96,5 @@ pub of_file : {D : Type 0} {g : disk.Ghosts D} (image : Image) (first : Held (Fi
     → (HasCleanDisk (file_state first) → IsOpened first) → (office : State) → IsFoundFor (file_state first) after office → HasCleanDisk after → IsOfficeIn image office
 of_file image first after found opened office is clean db holds =
     let it = is clean in
-    let open = opened it.0 in
-    ((file_state first).now, (open.1 open.0.is_open).0, ap (λ (d : Database). d.trees) open.0.clean ∙ (found it.0).holds db holds, it.1)
+    let fresh = opened it.0 in
+    ((file_state first).now, (fresh.1 fresh.0.is_open).0, ap (λ (d : Database). d.trees) fresh.0.clean ∙ (found it.0).holds db holds, it.1)
