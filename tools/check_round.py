@@ -13,7 +13,7 @@ import sys
 
 RANKS = 12
 ZERO = (0,) * (1 + RANKS)
-MOST_BYTES = 524_288
+MAX_BYTES = 524_288
 # the sections in their order, the roll that each section of prices goes along with, and how many lines a roll may have
 SECTIONS = "ASPCMUYZ"
 ROLL = {"U": "C", "Y": "P", "Z": "S"}
@@ -116,7 +116,7 @@ class Round:
 
 def checked(text):
     """What is told of a text, whose bytes stand as the characters below 256."""
-    if len(text) > MOST_BYTES:
+    if len(text) > MAX_BYTES:
         return "refused 4: TooLarge"
     it = Round()
     *lines, rest = text.split("\n")

@@ -44,7 +44,7 @@ FORMS = {
 READING = {"Import": ("Header", "Row")}
 
 # How many messages a connection takes.
-MOST_MESSAGES = 100
+MAX_MESSAGES = 100
 
 METHODS = ("get", "put", "post", "delete")
 
@@ -227,7 +227,7 @@ class Offices:
         return copy(self.made.get(lines), os.path.join(self.folder, "copy.db"))
 
     def filled(self, lines, name):
-        streams = [b"".join(map(bytes_of, lines[at : at + MOST_MESSAGES])) for at in range(0, len(lines), MOST_MESSAGES)]
+        streams = [b"".join(map(bytes_of, lines[at : at + MAX_MESSAGES])) for at in range(0, len(lines), MAX_MESSAGES)]
         if sum(map(successes, served(self.program, name, streams))) != len(lines):
             shown = "\n".join(lines[:20])
             sys.exit(f"openapi.py: of these {len(lines)} earlier requests not each is answered with success:\n{shown}")

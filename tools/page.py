@@ -45,7 +45,7 @@ FIRST, TERM = (
 # what stands there, what a mutant has in its place, and the trial that must fail.
 OFFICE_MUTANTS = [
     ("first_round", "office.html", 'kind === "best" && /^C,/m', 'kind === "best" && /^/m', "no proof: ''"),
-    ("first_round", "office.html", "file.slice(0, MOST_TEXT + 1)", "file.slice(0, 8)", "by the page, opened again"),
+    ("first_round", "office.html", "file.slice(0, MAX_TEXT + 1)", "file.slice(0, 8)", "by the page, opened again"),
     ("first_round", "office.html", 'if (String(rowsOfKind(proof, "M")) !==', 'if (false && String(rowsOfKind(proof, "M")) !==', "quotas that have changed"),
     ("first_round", "office.html", "read(`/reports/text/${number}`)", "read(`/reports/text/${number}`).then(() => \"\")", "its text"),
     ("term", "office.html", 'students("missing", number)', 'students("unplaced", number)', "who has no list"),

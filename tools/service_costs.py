@@ -17,7 +17,7 @@ from typing import NamedTuple
 
 from office import COUNT, COUNTING, answered, copy, counted, instructions, message, serving, sheets, successes
 
-MOST_MESSAGES, MOST_IMPORTS, MOST_BYTES = 100, 200, 65536
+MAX_MESSAGES, MAX_IMPORTS, MAX_BYTES = 100, 200, 65536
 ROLLS = ("supervisors", "projects", "students")
 OPEN, CLOSE, REOPEN = (message("POST", path) for path in ("/rounds", "/rounds/close", "/rounds/reopen"))
 PREVIEW, ROUND_TEXT = (message("GET", path) for path in ("/preview", "/roundtext"))
@@ -59,8 +59,8 @@ def seated(size=500):
 
 def full_of_imports():
     """The messages that fill the rolls, and keep as many imports as may be, each of the greatest length: empty lines are no records."""
-    made = [*((kind, FULL[kind]) for kind in ROLLS), *[("students", "code,name\n")] * (MOST_IMPORTS - len(ROLLS))]
-    return [imported(kind, sheet.ljust(MOST_BYTES, "\n"), number) for number, (kind, sheet) in enumerate(made)]
+    made = [*((kind, FULL[kind]) for kind in ROLLS), *[("students", "code,name\n")] * (MAX_IMPORTS - len(ROLLS))]
+    return [imported(kind, sheet.ljust(MAX_BYTES, "\n"), number) for number, (kind, sheet) in enumerate(made)]
 
 
 def listed(student, chosen_by):
@@ -107,7 +107,7 @@ def streamed(program, messages):
 
 def served(program, database, messages, **how):
     """What a `serve` of these messages over a database in a file says on standard error."""
-    parts = [messages[n : n + MOST_MESSAGES] for n in range(0, len(messages), MOST_MESSAGES)]
+    parts = [messages[n : n + MAX_MESSAGES] for n in range(0, len(messages), MAX_MESSAGES)]
     with serving(program, database, len(parts), stderr=subprocess.PIPE, **how) as (it, port):
         answers = b"".join(answered(port, b"".join(part)) for part in parts)
         _, told = it.communicate()

@@ -1,6 +1,6 @@
 //! Answers in a fixed array, which allocate nothing.
 ghost use Rattle.std.specs.Prelude.{◌≡◌, ◌+◌, ◌≤◌, ◌++◌, length, decimal};
-ghost use Rattle.wire.specs.declared.TheConstants.{MOST_SHORT_TEXT, MOST_SHORT_BODY};
+ghost use Rattle.wire.specs.declared.TheConstants.{MAX_SHORT_TEXT, MAX_SHORT_BODY};
 ghost use Rattle.arrayvec.specs.ArrayVec.{array_vec_len};
 ghost use Rattle.std.specs.Prelude.{◌*◌};
 ghost use Rattle.api.specs.Texts.{numbers_text};
@@ -12,7 +12,7 @@ use wire::ShortText;
 
 /// Appends bytes.
 pub fn push(out: &mut ShortText, bytes: &[u8])
-    requires { array_vec_len out.old + length bytes.now ≤ MOST_SHORT_TEXT }
+    requires { array_vec_len out.old + length bytes.now ≤ MAX_SHORT_TEXT }
     ensures { out.new.items ≡ out.old.items ++ bytes.now }
 {
     let _ = out.try_extend_from_slice(bytes);
@@ -20,7 +20,7 @@ pub fn push(out: &mut ShortText, bytes: &[u8])
 
 /// Appends a number's digits.
 pub fn push_number(out: &mut ShortText, number: u64)
-    requires { array_vec_len out.old + 20 ≤ MOST_SHORT_TEXT }
+    requires { array_vec_len out.old + 20 ≤ MAX_SHORT_TEXT }
     ensures items { out.new.items ≡ out.old.items ++ decimal number }
     ensures len { array_vec_len out.new ≤ array_vec_len out.old + 20 }
 {
@@ -30,7 +30,7 @@ pub fn push_number(out: &mut ShortText, number: u64)
 
 /// Appends a number of 32 bits.
 fn push_count(out: &mut ShortText, number: u32)
-    requires { array_vec_len out.old + 10 ≤ MOST_SHORT_TEXT }
+    requires { array_vec_len out.old + 10 ≤ MAX_SHORT_TEXT }
     ensures items { out.new.items ≡ out.old.items ++ decimal number }
     ensures len { array_vec_len out.new ≤ array_vec_len out.old + 10 }
 {
@@ -40,7 +40,7 @@ fn push_count(out: &mut ShortText, number: u32)
 
 /// Appends a label and a number.
 pub fn push_labelled(out: &mut ShortText, label: &[u8], number: u32)
-    requires { array_vec_len out.old + (length label.now + 10) ≤ MOST_SHORT_TEXT }
+    requires { array_vec_len out.old + (length label.now + 10) ≤ MAX_SHORT_TEXT }
     ensures items { out.new.items ≡ out.old.items ++ (label.now ++ decimal number) }
     ensures len { array_vec_len out.new ≤ array_vec_len out.old + (length label.now + 10) }
 {
@@ -50,7 +50,7 @@ pub fn push_labelled(out: &mut ShortText, label: &[u8], number: u32)
 
 /// Appends numbers, and the bracket that closes them.
 pub fn push_numbers(out: &mut ShortText, counts: &[u32])
-    requires { array_vec_len out.old + (11 * length counts.now + 1) ≤ MOST_SHORT_TEXT }
+    requires { array_vec_len out.old + (11 * length counts.now + 1) ≤ MAX_SHORT_TEXT }
     ensures items { out.new.items ≡ out.old.items ++ numbers_text counts.now }
     ensures len { array_vec_len out.new ≤ array_vec_len out.old + (11 * length counts.now + 1) }
 {
@@ -64,7 +64,7 @@ pub fn push_numbers(out: &mut ShortText, counts: &[u32])
 
 /// Appends a refusal's body.
 fn push_fault(out: &mut ShortText, name: &str, number: u64)
-    requires { array_vec_len out.old + (length name.now + 42) ≤ MOST_SHORT_TEXT }
+    requires { array_vec_len out.old + (length name.now + 42) ≤ MAX_SHORT_TEXT }
     ensures items { out.new.items ≡ out.old.items ++ fault_body name.now number }
     ensures len { array_vec_len out.new ≤ array_vec_len out.old + (length name.now + 42) }
 {
@@ -116,7 +116,7 @@ pub const TEXT: &str = "text/plain; charset=utf-8";
 /// Returns an answer in JSON whose body is short.
 pub fn json(status: StatusCode, body: &[u8]) -> ShortText
     requires reason { length (reason_of status) ≤ 32 }
-    requires body { length body.now ≤ MOST_SHORT_BODY }
+    requires body { length body.now ≤ MAX_SHORT_BODY }
     ensures { result.items ≡ json_answer status body.now }
 {
     let mut out = answer_head(status, JSON, body.len());

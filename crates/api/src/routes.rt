@@ -83,13 +83,13 @@ fn all_digits(text: &[u8]) -> bool
 }
 
 /// The most digits of a number in a path.
-const MOST_DIGITS: usize = 4;
+const MAX_DIGITS: usize = 4;
 
 /// Returns the number that 1 to 4 digits write.
 pub fn number_of(text: &str) -> Option<u32>
     ensures { result ≡ number_of text.now }
 {
-    if text.is_empty() || text.len() > MOST_DIGITS || !all_digits(text.as_bytes()) {
+    if text.is_empty() || text.len() > MAX_DIGITS || !all_digits(text.as_bytes()) {
         return None;
     }
     text.parse::<u32>().ok()

@@ -4,7 +4,7 @@ ghost use Rattle.arrayvec.specs.ArrayVec.{array_vec_len};
 ghost use Rattle.rolls.specs.Told.{status_of};
 ghost use Rattle.serde_json.specs.View.{view};
 ghost use Rattle.serde_json.specs.Written.{compact_text, has_float};
-ghost use Rattle.wire.specs.declared.TheConstants.{MOST_SHORT_BODY};
+ghost use Rattle.wire.specs.declared.TheConstants.{MAX_SHORT_BODY};
 ghost use Rattle.wire.specs.Answers.{answer_bytes};
 ghost use Rattle.api.specs.Text.{reason_of, typed_answer, json_answer};
 ghost use Rattle.api.specs.Texts.{numbers_text, refusal_text, row_text, supervisor_data, project_data, list_data, placed_data, student_data, truth_text, round_json, closed_text, preview_text, reply_text, text_of, IsRead};
@@ -32,7 +32,7 @@ fn status_of(refusal: Refusal) -> StatusCode
 /// Returns the body of a refused record.
 fn row_body(number: u32, inner: u32) -> ShortText
     ensures items { result.items ≡ row_text number inner }
-    ensures len { array_vec_len result ≤ MOST_SHORT_BODY }
+    ensures len { array_vec_len result ≤ MAX_SHORT_BODY }
 {
     let mut out = ArrayVec::new();
     push_labelled(&mut out, b"{\"fault\":\"Row\",\"inner\":", inner);
@@ -64,7 +64,7 @@ fn done_answer() -> ShortText
 /// Returns the answer of success with a body of a round.
 #[tactic(auto, unfolding(crate::specs::Text::reason_of))]
 fn round_answer(body: &ShortText) -> ShortText
-    requires { array_vec_len body.now ≤ MOST_SHORT_BODY }
+    requires { array_vec_len body.now ≤ MAX_SHORT_BODY }
     ensures { result.items ≡ json_answer 200 body.now.items }
 {
     json(StatusCode::OK, body.as_slice())
@@ -74,7 +74,7 @@ fn round_answer(body: &ShortText) -> ShortText
 fn number_body(member: &[u8], number: u32) -> ShortText
     requires { length member.now ≤ 20 }
     ensures items { result.items ≡ member.now ++ decimal number ++ codes "}" }
-    ensures len { array_vec_len result ≤ MOST_SHORT_BODY }
+    ensures len { array_vec_len result ≤ MAX_SHORT_BODY }
 {
     let mut out = ArrayVec::new();
     push_labelled(&mut out, member, number);
@@ -96,7 +96,7 @@ fn profile_body(profile: &[u32; RANKS]) -> ShortText
 /// Returns the body of a closed round.
 fn closed_body(round: u32, size: u32, profile: &[u32; RANKS]) -> ShortText
     ensures items { result.items ≡ closed_text round size profile.now }
-    ensures len { array_vec_len result ≤ MOST_SHORT_BODY }
+    ensures len { array_vec_len result ≤ MAX_SHORT_BODY }
 {
     let mut out = profile_body(profile);
     push_labelled(&mut out, b",\"round\":", round);
@@ -108,7 +108,7 @@ fn closed_body(round: u32, size: u32, profile: &[u32; RANKS]) -> ShortText
 /// Returns the body of a preview.
 fn preview_body(size: u32, profile: &[u32; RANKS]) -> ShortText
     ensures items { result.items ≡ preview_text size profile.now }
-    ensures len { array_vec_len result ≤ MOST_SHORT_BODY }
+    ensures len { array_vec_len result ≤ MAX_SHORT_BODY }
 {
     let mut out = profile_body(profile);
     push_labelled(&mut out, b",\"size\":", size);
@@ -137,7 +137,7 @@ fn round_body(
     students: u32,
 ) -> ShortText
     ensures items { result.items ≡ round_json number state.0 state.1 placed profile.now students }
-    ensures len { array_vec_len result ≤ MOST_SHORT_BODY }
+    ensures len { array_vec_len result ≤ MAX_SHORT_BODY }
 {
     let mut out = ArrayVec::new();
     push(&mut out, b"{\"aim\":\"");

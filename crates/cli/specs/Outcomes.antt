@@ -10,7 +10,7 @@ use Rattle.rolls.specs.declared.request.Reply.{Reply}
 use Rattle.rolls.specs.declared.request.Reply.TheVariants as reply
 use Rattle.rolls.specs.declared.request.Request.{Request}
 use Rattle.rolls.specs.declared.request.Request.TheVariants as request
-use Rattle.rolls.specs.declared.TheConstants.{MOST_IMPORT_BYTES}
+use Rattle.rolls.specs.declared.TheConstants.{MAX_IMPORT_BYTES}
 use Rattle.rolls.specs.State.{State}
 use Rattle.rolls.specs.Fit.{IsFit}
 use Rattle.rolls.specs.Run.{Step}
@@ -173,8 +173,8 @@ MayDoAt name task o = MayBeNew name (MayDo task) o
 -- a line that imports these bytes: there are too many, or memory ran out, or what comes of the import
 abbrev pub IsImportLine : List ℕ → List ℕ → ImportKind → List ℕ → Outcome → Type 0
 IsImportLine name id kind bytes o =
-    ((MOST_IMPORT_BYTES < length bytes) × (o ≡ refused no.TooLarge))
-    ⊎ ((length bytes ≤ MOST_IMPORT_BYTES) × ((o ≡ refused no.Memory) ⊎ MayDoAt name (task.Ask (request.Import id kind bytes)) o))
+    ((MAX_IMPORT_BYTES < length bytes) × (o ≡ refused no.TooLarge))
+    ⊎ ((length bytes ≤ MAX_IMPORT_BYTES) × ((o ≡ refused no.Memory) ⊎ MayDoAt name (task.Ask (request.Import id kind bytes)) o))
 
 -- a line that imports a file: it could not be read, or what comes of importing its bytes
 abbrev pub ImportsFile : List ℕ → List ℕ → ImportKind → Outcome → Type 0

@@ -11,7 +11,7 @@ use crate::named::do_on;
 use crate::opening::Closing;
 use crate::outputs::Outputs;
 use crate::tasks::Task;
-use rolls::{Bytes, ImportKind, MOST_IMPORT_BYTES, Refusal, Request, Text};
+use rolls::{Bytes, ImportKind, MAX_IMPORT_BYTES, Refusal, Request, Text};
 use sqlite::{FileFrom, Start};
 use std::alloc::AllocError;
 use std::rt::HostRuntime;
@@ -37,7 +37,7 @@ fn import_of(
 fn import(rt: &HostRuntime, kind: ImportKind, id: &str, bytes: Vec<u8>) -> Result<Request, Refusal>
     ensures { IsImportOf id.now kind bytes.items result }
 {
-    if bytes.len() > MOST_IMPORT_BYTES {
+    if bytes.len() > MAX_IMPORT_BYTES {
         return Err(Refusal::TooLarge);
     }
     match import_of(rt, kind, id, bytes) {
@@ -70,7 +70,7 @@ pub(crate) fn import_file(
 ) -> Result<Request, Refusal>
     ensures { IsImportOfFile id.now kind result }
 {
-    import_read(rt, kind, id, read_file(rt, file, MOST_IMPORT_BYTES))
+    import_read(rt, kind, id, read_file(rt, file, MAX_IMPORT_BYTES))
 }
 
 /// Asks a request of the office of a database file, as `do_on` does, or prints why it was not made.

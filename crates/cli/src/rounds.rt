@@ -8,7 +8,7 @@ ghost use Rattle.cli.specs.Inside.Rounds.{ComesBy};
 use crate::files::read_file;
 use crate::outputs::Outputs;
 use crate::printing::tell_round;
-use intake::MOST_BYTES;
+use intake::MAX_BYTES;
 use rolls::Refusal;
 use round_files::{Trouble, checked, solved};
 use std::alloc::Global;
@@ -47,6 +47,6 @@ pub(crate) fn do_file<O: Sink, E: Sink>(
     requires { CanFail outputs.old }
     ensures { Tells (OnFile (ComesBy way)) outputs.old outputs.new result }
 {
-    let came = do_read(rt.alloc(), way, read_file(rt, file, MOST_BYTES));
+    let came = do_read(rt.alloc(), way, read_file(rt, file, MAX_BYTES));
     tell_round(came, outputs)
 }

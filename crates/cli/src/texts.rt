@@ -1,7 +1,7 @@
 //! The texts that lines print. None of them allocates, so that what was done is printed.
 
 ghost use Rattle.std.specs.Prelude.{◌≡◌, ◌+◌, ◌*◌, ◌≤◌, [], ◌∷◌, ◌++◌, length, decimal};
-ghost use Rattle.wire.specs.declared.TheConstants.{MOST_SHORT_TEXT};
+ghost use Rattle.wire.specs.declared.TheConstants.{MAX_SHORT_TEXT};
 ghost use Rattle.arrayvec.specs.ArrayVec.{array_vec_len};
 ghost use Rattle.rolls.specs.declared.refusal.Refusal.TheVariants as no;
 ghost use Rattle.cli.specs.Outcomes.{named_line, refusal_line, bad_line, counts_text, closed_line};
@@ -73,7 +73,7 @@ pub(crate) fn bad_line(number: usize) -> ShortText
 
 /// Appends numbers, each after a space.
 fn push_counts(out: &mut ShortText, counts: &[u32])
-    requires { array_vec_len out.old + 11 * length counts.now ≤ MOST_SHORT_TEXT }
+    requires { array_vec_len out.old + 11 * length counts.now ≤ MAX_SHORT_TEXT }
     ensures items { out.new.items ≡ out.old.items ++ counts_text counts.now }
     ensures len { array_vec_len out.new ≤ array_vec_len out.old + 11 * length counts.now }
 {

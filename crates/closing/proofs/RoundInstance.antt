@@ -4,7 +4,7 @@ use Rattle.std.specs.List.{AllByRecursion}
 use Rattle.std.proofs.lemmas.Option.{slice_get_within}
 use Rattle.std.proofs.lemmas.List.{length-map, drop_more}
 use Rattle.std.proofs.lemmas.List.Elements.{All-from_recursion}
-use Rattle.spa.specs.declared.TheConstants.{MOST_PLACES}
+use Rattle.spa.specs.declared.TheConstants.{MAX_QUOTA}
 use Rattle.spa.specs.declared.fault.Roll.TheVariants.{Supervisors, Projects, Students}
 use Rattle.spa.specs.declared.fault.InstanceFault.{InstanceFault}
 use Rattle.spa.specs.declared.fault.InstanceFault.TheVariants.{Memory, Limit, RepeatedCode, UnknownSupervisor, ListLength, UnknownProject, RepeatedProject}
@@ -50,12 +50,12 @@ module _ (with_supervisor in_project : List ℕ → ℕ) (o : State) (n : ℕ) (
     supervisors = rw (length-map o.supervisors supervisor_left) fit.supervisors.few;
     projects = rw (length-map o.projects project_left) fit.projects.few;
     students = omega (arith, length-map (lists_of o n) student_listed, few_lists o fit n, fit.students.few);
-    supervisor_quotas = All-from_recursion (λ q. q ≤ MOST_PLACES) (map (λ e. e.quota) instance.supervisors)
-        (all_made (λ (e : spa.Supervisor). e.quota) (λ q. q ≤ MOST_PLACES) instance.supervisors (all_made supervisor_left (λ e. e.quota ≤ MOST_PLACES) o.supervisors
-        (all_weaker SupervisorFits (λ s. s.quota - with_supervisor s.code ≤ MOST_PLACES) (λ s f. omega (arith, f.quota)) o.supervisors fit.supervisors.each)));
-    project_quotas = All-from_recursion (λ q. q ≤ MOST_PLACES) (map (λ e. e.quota) instance.projects)
-        (all_made (λ (e : spa.Project). e.quota) (λ q. q ≤ MOST_PLACES) instance.projects (all_made project_left (λ e. e.quota ≤ MOST_PLACES) o.projects
-        (all_weaker (ProjectFits o) (λ p. p.quota - in_project p.code ≤ MOST_PLACES) (λ p f. omega (arith, f.quota)) o.projects fit.projects.each)));
+    supervisor_quotas = All-from_recursion (λ q. q ≤ MAX_QUOTA) (map (λ e. e.quota) instance.supervisors)
+        (all_made (λ (e : spa.Supervisor). e.quota) (λ q. q ≤ MAX_QUOTA) instance.supervisors (all_made supervisor_left (λ e. e.quota ≤ MAX_QUOTA) o.supervisors
+        (all_weaker SupervisorFits (λ s. s.quota - with_supervisor s.code ≤ MAX_QUOTA) (λ s f. omega (arith, f.quota)) o.supervisors fit.supervisors.each)));
+    project_quotas = All-from_recursion (λ q. q ≤ MAX_QUOTA) (map (λ e. e.quota) instance.projects)
+        (all_made (λ (e : spa.Project). e.quota) (λ q. q ≤ MAX_QUOTA) instance.projects (all_made project_left (λ e. e.quota ≤ MAX_QUOTA) o.projects
+        (all_weaker (ProjectFits o) (λ p. p.quota - in_project p.code ≤ MAX_QUOTA) (λ p f. omega (arith, f.quota)) o.projects fit.projects.each)));
   }
 
   codes_apart : HasDistinctCodes instance

@@ -1,6 +1,6 @@
 -- Laws of rounds that close.
 use Rattle.std.specs.Prelude.{◌≡◌, ◌≤◌, ℕ, IsTrue, List, map, length, Option}
-use Rattle.spa.specs.declared.TheConstants.{MOST_STUDENTS}
+use Rattle.spa.specs.declared.TheConstants.{MAX_STUDENTS}
 use Rattle.spa.specs.Instance.{Instance}
 use Rattle.spa.specs.Coded.{CodePair, taken}
 use Rattle.rolls.specs.State.{State, last_round, round_is_open, lists_of}
@@ -54,7 +54,7 @@ PlacesClose = (o : State) (ks : List (Option ℕ)) → IsFit o → IsTrue (round
 abbrev pub AreFew : Type 0
 AreFew = (o : State) → IsFit o → record {
   placements : length o.placements ≤ length o.students;
-  few_placements : length o.placements ≤ MOST_STUDENTS;
+  few_placements : length o.placements ≤ MAX_STUDENTS;
   lists : (n : ℕ) → length (lists_of o n) ≤ length o.students;
-  few_lists : (n : ℕ) → length (lists_of o n) ≤ MOST_STUDENTS;
+  few_lists : (n : ℕ) → length (lists_of o n) ≤ MAX_STUDENTS;
 }

@@ -1,7 +1,7 @@
 //! The instance of a round, and what is counted of placements.
 
 ghost use Rattle.std.specs.Prelude.{◌≡◌, ◌≤◌, ℕ, List, map, length, Option, None, IfOk};
-ghost use Rattle.spa.specs.declared.TheConstants.{MOST_PROJECTS, MOST_SUPERVISORS};
+ghost use Rattle.spa.specs.declared.TheConstants.{MAX_PROJECTS, MAX_SUPERVISORS};
 ghost use Rattle.spa.specs.Named.{instance_of};
 ghost use Rattle.rolls.specs.State.{State};
 ghost use Rattle.rolls.specs.Instances.{instance_left};
@@ -53,7 +53,7 @@ fn supervisors_left(
     supervisors: &[Supervisor],
     counts: &Counts,
 ) -> Result<Vec<(Code, u32)>, AllocError>
-    requires { length supervisors.now ≤ MOST_SUPERVISORS }
+    requires { length supervisors.now ≤ MAX_SUPERVISORS }
     ensures { IfOk result (λ roll. (up_to : Option ℕ) (projects : List Project) (placements : List Placement) → AreCounted up_to supervisors.now projects placements counts.now → roll.items ≡ map (supervisor_left up_to projects placements) supervisors.now) }
 {
     let mut roll = Vec::new(alloc);
@@ -71,7 +71,7 @@ fn projects_left(
     projects: &[Project],
     counts: &Counts,
 ) -> Result<Vec<(Code, Code, u32)>, AllocError>
-    requires { length projects.now ≤ MOST_PROJECTS }
+    requires { length projects.now ≤ MAX_PROJECTS }
     ensures { IfOk result (λ roll. (up_to : Option ℕ) (supervisors : List Supervisor) (placements : List Placement) → AreCounted up_to supervisors projects.now placements counts.now → roll.items ≡ map (project_left up_to placements) projects.now) }
 {
     let mut roll = Vec::new(alloc);

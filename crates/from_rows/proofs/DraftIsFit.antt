@@ -9,9 +9,9 @@ use Rattle.std.specs.Str.{bytes_eq}
 use Rattle.std.proofs.lemmas.Bool.{and_from}
 use Rattle.std.proofs.lemmas.List.Sums.{sum_by-cons}
 use Rattle.sqlite_keyed.proofs.ListLemmas.{all_both, all_from_test, all_weaker, test_from_all}
-use Rattle.spa.specs.declared.TheConstants.{MOST_SUPERVISORS, MOST_PROJECTS, MOST_STUDENTS, RANKS}
+use Rattle.spa.specs.declared.TheConstants.{MAX_SUPERVISORS, MAX_PROJECTS, MAX_STUDENTS, RANKS}
 use Rattle.row_data.specs.declared.table.Table.TheVariants.{Supervisor, Project, Student, Import, Placement}
-use Rattle.rolls.specs.declared.TheConstants.{MOST_ROUNDS, MOST_IMPORTS}
+use Rattle.rolls.specs.declared.TheConstants.{MAX_ROUNDS, MAX_IMPORTS}
 use Rattle.rolls.specs.declared.entries.Supervisor.{Supervisor as SupervisorEntry}
 use Rattle.rolls.specs.declared.entries.Project.{Project as ProjectEntry}
 use Rattle.rolls.specs.declared.rounds.Round.{Round as RoundEntry}
@@ -197,11 +197,11 @@ joined o h =
 pub whole_fit : (o : State) → IsDrafted o → is_whole o ≡ true → IsFit o
 whole_fit o d whole =
     let j = joined o whole in
-    let supervisors = nat_le (length o.supervisors) MOST_SUPERVISORS in
-    let projects = nat_le (length o.projects) MOST_PROJECTS in
-    let students = nat_le (length o.students) MOST_STUDENTS in
-    let rounds = nat_le (length o.rounds) MOST_ROUNDS in
-    let imports = nat_le (length o.placements) MOST_STUDENTS && nat_le (length o.imports) MOST_IMPORTS in
+    let supervisors = nat_le (length o.supervisors) MAX_SUPERVISORS in
+    let projects = nat_le (length o.projects) MAX_PROJECTS in
+    let students = nat_le (length o.students) MAX_STUDENTS in
+    let rounds = nat_le (length o.rounds) MAX_ROUNDS in
+    let imports = nat_le (length o.placements) MAX_STUDENTS && nat_le (length o.imports) MAX_IMPORTS in
     let few1 = second_so supervisors (projects && (students && (rounds && imports))) j.few in
     let few2 = second_so projects (students && (rounds && imports)) few1 in
     let few3 = second_so students (rounds && imports) few2 in
@@ -222,7 +222,7 @@ whole_fit o d whole =
       lists_fit = lists;
       placements_rise = (d Placement).rise;
       placements_fit = placements;
-      imports = record { rise = (d Import).rise; few = at_most _ _ (second_so (nat_le (length o.placements) MOST_STUDENTS) (nat_le (length o.imports) MOST_IMPORTS) (second_so rounds imports few3)); each = (d Import).each };
+      imports = record { rise = (d Import).rise; few = at_most _ _ (second_so (nat_le (length o.placements) MAX_STUDENTS) (nat_le (length o.imports) MAX_IMPORTS) (second_so rounds imports few3)); each = (d Import).each };
       projects_within = projects_within o known j.projects;
       supervisors_within = supervisors_within o offered j.supervisors;
     }
@@ -230,11 +230,11 @@ whole_fit o d whole =
 -- and a fit office goes together
 pub fit_whole : (o : State) → IsFit o → is_whole o ≡ true
 fit_whole o fit =
-    let few = and_from (nat_le (length o.supervisors) MOST_SUPERVISORS) _ (within _ _ fit.supervisors.few)
-    (and_from (nat_le (length o.projects) MOST_PROJECTS) _ (within _ _ fit.projects.few)
-    (and_from (nat_le (length o.students) MOST_STUDENTS) _ (within _ _ fit.students.few)
-    (and_from (nat_le (length o.rounds) MOST_ROUNDS) _ (within _ _ fit.few_rounds)
-    (and_from (nat_le (length o.placements) MOST_STUDENTS) _ (within _ _ (omega (arith, few_placed o fit, fit.students.few))) (within _ _ fit.imports.few))))) in
+    let few = and_from (nat_le (length o.supervisors) MAX_SUPERVISORS) _ (within _ _ fit.supervisors.few)
+    (and_from (nat_le (length o.projects) MAX_PROJECTS) _ (within _ _ fit.projects.few)
+    (and_from (nat_le (length o.students) MAX_STUDENTS) _ (within _ _ fit.students.few)
+    (and_from (nat_le (length o.rounds) MAX_ROUNDS) _ (within _ _ fit.few_rounds)
+    (and_from (nat_le (length o.placements) MAX_STUDENTS) _ (within _ _ (omega (arith, few_placed o fit, fit.students.few))) (within _ _ fit.imports.few))))) in
     and_from (are_few o) _ few
     (and_from (are_offered o) _ (all_pass (ProjectFits o) (λ p. has_supervisor o p.supervisor) (λ p fits. fits.supervisor) o.projects fit.projects.each)
     (and_from (are_rounds o) _ (and_from (are_numbered 1 o.rounds) _ fit.numbered (and_from (are_aimed o.aims o.rounds) _ fit.aimed (and_from (only_last_open o.rounds) _ fit.last_open (fit_lists o fit))))

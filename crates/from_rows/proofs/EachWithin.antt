@@ -10,8 +10,8 @@ use Rattle.rolls.specs.declared.entries.Project.{Project}
 use Rattle.rolls.specs.State.{State, supervisor_key, project_key, has_supervisor, placed_in_project, placed_with_supervisor}
 use Rattle.rolls.specs.Roll.{rises}
 use Rattle.rolls.specs.Counted.{AreRolls}
-use Rattle.spa.specs.declared.TheConstants.{MOST_SUPERVISORS, MOST_PROJECTS, MOST_STUDENTS}
-use Rattle.rolls.specs.declared.TheConstants.{MOST_ROUNDS, MOST_IMPORTS}
+use Rattle.spa.specs.declared.TheConstants.{MAX_SUPERVISORS, MAX_PROJECTS, MAX_STUDENTS}
+use Rattle.rolls.specs.declared.TheConstants.{MAX_ROUNDS, MAX_IMPORTS}
 use Rattle.std.specs.Cmp.{first_so, second_so}
 use Rattle.from_rows.specs.Inside.Whole.{are_few, are_offered}
 use Rattle.sqlite_keyed.proofs.ListLemmas.{all_from_test}
@@ -66,12 +66,12 @@ module _ {E : Type 0} (quota placed : E → ℕ) (own all : List E) (same : all 
 pub counted_rolls : (o : State) (ss : List Supervisor) (ps : List Project) → ss ≡ o.supervisors → ps ≡ o.projects → rises supervisor_key o.supervisors ≡ true → rises project_key o.projects ≡ true
     → are_few o ≡ true → are_offered o ≡ true → AreRolls ss ps
 counted_rolls o ss ps s p supervisors_rise projects_rise few offered =
-    let rest = nat_le (length o.projects) MOST_PROJECTS && (nat_le (length o.students) MOST_STUDENTS && (nat_le (length o.rounds) MOST_ROUNDS && (nat_le (length o.placements) MOST_STUDENTS && nat_le (length o.imports) MOST_IMPORTS))) in
-    let more = nat_le (length o.students) MOST_STUDENTS && (nat_le (length o.rounds) MOST_ROUNDS && (nat_le (length o.placements) MOST_STUDENTS && nat_le (length o.imports) MOST_IMPORTS)) in
+    let rest = nat_le (length o.projects) MAX_PROJECTS && (nat_le (length o.students) MAX_STUDENTS && (nat_le (length o.rounds) MAX_ROUNDS && (nat_le (length o.placements) MAX_STUDENTS && nat_le (length o.imports) MAX_IMPORTS))) in
+    let more = nat_le (length o.students) MAX_STUDENTS && (nat_le (length o.rounds) MAX_ROUNDS && (nat_le (length o.placements) MAX_STUDENTS && nat_le (length o.imports) MAX_IMPORTS)) in
     subst (λ (x : List Project). AreRolls ss x) (sym p) (subst (λ (x : List Supervisor). AreRolls x o.projects) (sym s) (record {
       supervisors_rise = supervisors_rise;
       projects_rise = projects_rise;
-      few_supervisors = at_most _ _ (first_so (nat_le (length o.supervisors) MOST_SUPERVISORS) rest few);
-      few_projects = at_most _ _ (first_so (nat_le (length o.projects) MOST_PROJECTS) more (second_so (nat_le (length o.supervisors) MOST_SUPERVISORS) rest few));
+      few_supervisors = at_most _ _ (first_so (nat_le (length o.supervisors) MAX_SUPERVISORS) rest few);
+      few_projects = at_most _ _ (first_so (nat_le (length o.projects) MAX_PROJECTS) more (second_so (nat_le (length o.supervisors) MAX_SUPERVISORS) rest few));
       offered = all_from_test (λ p. has_supervisor o p.supervisor) o.projects offered;
     }))

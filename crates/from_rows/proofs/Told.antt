@@ -6,7 +6,7 @@ use Rattle.std.specs.Option.{option_map}
 use Rattle.std.specs.Str.{bytes_eq}
 use Rattle.std.proofs.lemmas.Bool.{and_from}
 use Rattle.std.proofs.lemmas.Bool.Decides.{nat_tests}
-use Rattle.spa.specs.declared.TheConstants.{MOST_PLACES}
+use Rattle.spa.specs.declared.TheConstants.{MAX_QUOTA}
 use Rattle.spa.specs.declared.aim.Aim.{Aim}
 use Rattle.spa.specs.declared.aim.Aim.TheVariants.{Greedy, Generous}
 use Rattle.spa.specs.Text.{is_code, is_label}
@@ -39,7 +39,7 @@ ProjectForm p = record {
   code : IsTrue (is_code p.code);
   label : IsTrue (is_label p.label);
   supervisor : IsTrue (is_code p.supervisor);
-  quota : p.quota ≤ MOST_PLACES;
+  quota : p.quota ≤ MAX_QUOTA;
 }
 
 -- a placement of a code at a code

@@ -9,10 +9,10 @@ ghost use Rattle.from_rows.specs.Inside.Gathering.{after_cells, after_row, choic
 use crate::cells::{aim_of, flag_in, kind_in};
 use crate::fault::RowsFault;
 use rolls::{
-    Cell, Choices, Entries, Entry, Import, Listed, MOST_IMPORT_BYTES, Placement, Project, Round,
+    Cell, Choices, Entries, Entry, Import, Listed, MAX_IMPORT_BYTES, Placement, Project, Round,
     RoundAim, Row, Student, Supervisor, Table,
 };
-use spa::{Code, Label, MOST_PLACES, RANKS};
+use spa::{Code, Label, MAX_QUOTA, RANKS};
 use std::alloc::{AllocError, Global};
 
 /// The parts of an office.
@@ -126,7 +126,7 @@ impl PartialOffice {
         };
         let code = Code::read(code.as_str())?;
         let label = Label::read(alloc, label.as_str())?;
-        if *quota > MOST_PLACES {
+        if *quota > MAX_QUOTA {
             return Err(RowsFault::Unfit);
         }
         let quota = *quota;
@@ -150,7 +150,7 @@ impl PartialOffice {
         let code = Code::read(code.as_str())?;
         let label = Label::read(alloc, label.as_str())?;
         let supervisor = Code::read(supervisor.as_str())?;
-        if *quota > MOST_PLACES {
+        if *quota > MAX_QUOTA {
             return Err(RowsFault::Unfit);
         }
         let quota = *quota;
@@ -296,7 +296,7 @@ impl PartialOffice {
         let Some(kind) = kind_in(word.as_str()) else {
             return Err(RowsFault::Unfit);
         };
-        if bytes.as_slice().len() > MOST_IMPORT_BYTES || *rows as usize > MOST_IMPORT_BYTES {
+        if bytes.as_slice().len() > MAX_IMPORT_BYTES || *rows as usize > MAX_IMPORT_BYTES {
             return Err(RowsFault::Unfit);
         }
         let bytes = bytes.copy()?;

@@ -2,7 +2,7 @@
 
 ghost use Rattle.std.specs.Prelude.{◌≡◌, ◌≤◌, nat_le, IsTrue, None, length};
 ghost use Rattle.std.specs.List.{list_all};
-ghost use Rattle.spa.specs.declared.TheConstants.{MOST_PROJECTS, MOST_SUPERVISORS};
+ghost use Rattle.spa.specs.declared.TheConstants.{MAX_PROJECTS, MAX_SUPERVISORS};
 ghost use Rattle.rolls.specs.State.{placed_in_project, placed_with_supervisor};
 ghost use Rattle.rolls.specs.Counted.{AreCounted};
 ghost use Rattle.from_rows.specs.View.{drafted};
@@ -15,7 +15,7 @@ use spa::Counts;
 impl PartialOffice {
     /// Whether no project has more students than its quota.
     fn are_projects_within(&self, counts: &Counts) -> bool
-        requires few { length self.now.projects ≤ MOST_PROJECTS }
+        requires few { length self.now.projects ≤ MAX_PROJECTS }
         requires counted { AreCounted None self.now.supervisors self.now.projects self.now.placements counts.now }
         ensures { result ≡ list_all (λ p. nat_le (placed_in_project (drafted self.now) p.code) p.quota) self.now.projects }
     {
@@ -30,7 +30,7 @@ impl PartialOffice {
 
     /// Whether no supervisor has more students than the quota.
     fn are_supervisors_within(&self, counts: &Counts) -> bool
-        requires few { length self.now.supervisors ≤ MOST_SUPERVISORS }
+        requires few { length self.now.supervisors ≤ MAX_SUPERVISORS }
         requires counted { AreCounted None self.now.supervisors self.now.projects self.now.placements counts.now }
         ensures { result ≡ list_all (λ s. nat_le (placed_with_supervisor (drafted self.now) s.code) s.quota) self.now.supervisors }
     {

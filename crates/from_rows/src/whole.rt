@@ -12,8 +12,8 @@ ghost use Rattle.from_rows.specs.Inside.Whole.{is_whole, are_few, are_offered, a
 
 use crate::draft::PartialOffice;
 use crate::fault::RowsFault;
-use rolls::{Entries, Listed, MOST_IMPORTS, MOST_ROUNDS, Placement, Round, RoundAim};
-use spa::{Code, MOST_PROJECTS, MOST_STUDENTS, MOST_SUPERVISORS, RANKS};
+use rolls::{Entries, Listed, MAX_IMPORTS, MAX_ROUNDS, Placement, Round, RoundAim};
+use spa::{Code, MAX_PROJECTS, MAX_STUDENTS, MAX_SUPERVISORS, RANKS};
 
 /// Whether the rounds have the numbers from 1 on.
 fn are_numbered(rounds: &[Round]) -> bool
@@ -94,12 +94,12 @@ impl PartialOffice {
     fn are_few(&self) -> bool
         ensures { result ≡ are_few (drafted self.now) }
     {
-        self.supervisors.entries().len() <= MOST_SUPERVISORS
-            && self.projects.entries().len() <= MOST_PROJECTS
-            && self.students.entries().len() <= MOST_STUDENTS
-            && self.rounds.entries().len() <= MOST_ROUNDS as usize
-            && self.placements.entries().len() <= MOST_STUDENTS
-            && self.imports.entries().len() <= MOST_IMPORTS
+        self.supervisors.entries().len() <= MAX_SUPERVISORS
+            && self.projects.entries().len() <= MAX_PROJECTS
+            && self.students.entries().len() <= MAX_STUDENTS
+            && self.rounds.entries().len() <= MAX_ROUNDS as usize
+            && self.placements.entries().len() <= MAX_STUDENTS
+            && self.imports.entries().len() <= MAX_IMPORTS
     }
 
     /// Whether the supervisor of each project is on the roll.

@@ -13,7 +13,7 @@ use std::str;
 const NO_QUOTA: u32 = 9_999;
 
 /// The most digits of a quota.
-const MOST_DIGITS: usize = 3;
+const MAX_DIGITS: usize = 3;
 
 /// Returns a field as a text. One that is not UTF-8 is the empty text.
 fn readable(field: &[u8]) -> &str
@@ -36,9 +36,7 @@ pub(crate) fn text_of(alloc: Global, field: &[u8]) -> Result<Text, AllocError>
 fn is_quota(field: &[u8]) -> bool
     ensures { result ≡ is_quota field.now }
 {
-    !field.is_empty()
-        && field.len() <= MOST_DIGITS
-        && field.iter().all(|byte| byte.is_ascii_digit())
+    !field.is_empty() && field.len() <= MAX_DIGITS && field.iter().all(|byte| byte.is_ascii_digit())
 }
 
 /// Returns the number that 1 to 3 digits write.

@@ -2,7 +2,7 @@
 use Rattle.std.proofs.Common.{sym, ◌≡◌, ℕ, zero, suc, ◌<◌, ◌≤◌, ◌^◌, ◌≢◌, ◌+◌, ℤ, pos, negsuc, List, [], ◌∷◌, length, map, set, get_or, Result, Ok, decimal, refl, ap, ◌∙◌, arith, below_more, length-set, get_or-set_other, get_or-set_same, to_z, of_z}
 use denote.Ref.{Bor}
 use Rattle.std.proofs.lemmas.List.{get_or_default}
-use Rattle.spa.specs.declared.TheConstants.{PLACES, MOST_PLACES}
+use Rattle.spa.specs.declared.TheConstants.{COMPONENTS, MAX_QUOTA}
 use Rattle.std.specs.Fmt.{signed_decimal}
 use Rattle.std.specs.Str.{IsUtf8}
 use Rattle.std.specs.Str.Parse.{ParsesUnsigned, ParsesSigned}
@@ -15,11 +15,11 @@ use lib.Signed.{mag}
 use mir.Syntax.{w64}
 
 -- a quota is text
-pub quota_utf8 : (n : ℕ) → n ≤ MOST_PLACES → IsUtf8 (decimal n)
+pub quota_utf8 : (n : ℕ) → n ≤ MAX_QUOTA → IsUtf8 (decimal n)
 quota_utf8 n h = IsUtf8-from_ascii (decimal n) (IsAscii-decimal n (omega arith))
 
 -- the text of a quota is read as it
-pub quota_parsed : {E : Type 0} (n : ℕ) (bs : List ℕ) (r : Result ℕ E) → n ≤ MOST_PLACES → bs ≡ decimal n → ParsesUnsigned 32 10 bs r → r ≡ Ok n
+pub quota_parsed : {E : Type 0} (n : ℕ) (bs : List ℕ) (r : Result ℕ E) → n ≤ MAX_QUOTA → bs ≡ decimal n → ParsesUnsigned 32 10 bs r → r ≡ Ok n
 quota_parsed n bs r h e p = parse-decimal 32 n bs r (omega arith) (omega arith) e p
 
 -- a number of a price is small
@@ -78,12 +78,12 @@ fields_are (g ∷ fs) (x ∷ v) n h =
 
 -- what the first t fields were read as
 pub record AreRead (fs : List (Bor (List ℕ))) (v : List ℤ) (t : ℕ) : Type 0 where
-  pub numbers : length v ≡ PLACES
+  pub numbers : length v ≡ COMPONENTS
   pub range : (k : ℕ) → k < t → InRange (get_or v k (pos 0))
   pub texts : (k : ℕ) (f : Bor (List ℕ)) → k < t → (get_or fs k f).now ≡ signed_decimal (get_or v k (pos 0))
 
 -- one field more
-pub read_more : (fs : List (Bor (List ℕ))) (v : List ℤ) (t : ℕ) (n : ℤ) (d : Bor (List ℕ)) → t < PLACES → t < length fs → AreRead fs v t → InRange n → (get_or fs t d).now ≡ signed_decimal n
+pub read_more : (fs : List (Bor (List ℕ))) (v : List ℤ) (t : ℕ) (n : ℤ) (d : Bor (List ℕ)) → t < COMPONENTS → t < length fs → AreRead fs v t → InRange n → (get_or fs t d).now ≡ signed_decimal n
     → AreRead fs (set v t (to_z w64 (of_z w64 n))) (t + 1)
 read_more fs v t n d h l r range is =
     let within : t < length v = omega (arith, r.numbers) in

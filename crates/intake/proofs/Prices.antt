@@ -5,7 +5,7 @@ use Rattle.std.specs.Prelude.{⊤}
 use Rattle.std.proofs.lemmas.Int.{ints}
 use Rattle.std.proofs.lemmas.List.{length_push, length-append, length-map, length-replicate, get_or-replicate, nil_from_length}
 use Rattle.std.proofs.lemmas.List.Elements.{All-push, All-nil, All-append, All-replicate}
-use Rattle.spa.specs.declared.TheConstants.{PLACES}
+use Rattle.spa.specs.declared.TheConstants.{COMPONENTS}
 use Rattle.spa.specs.Codes.{code_at}
 use Rattle.spa.specs.Instance.{Supervisor, Project, Student}
 use Rattle.intake.specs.Parts.{Parts, IsPrice, ArePricesOrNone, IsRoundParts}
@@ -104,11 +104,11 @@ pushed_rows (suc n) (s ∷ ss) row v t = pushed_rows n ss row v t
 
 -- a price of nothing
 abbrev zeros : List ℤ
-zeros = replicate PLACES (pos 0)
+zeros = replicate COMPONENTS (pos 0)
 
 -- it is one
 zeros_price : IsPrice zeros
-zeros_price = record { numbers = length-replicate PLACES (pos 0); range = λ t h. rw (get_or-replicate PLACES t (pos 0) (pos 0) h) (omega (arith, ints), omega (arith, ints)) }
+zeros_price = record { numbers = length-replicate COMPONENTS (pos 0); range = λ t h. rw (get_or-replicate COMPONENTS t (pos 0) (pos 0) h) (omega (arith, ints), omega (arith, ints)) }
 
 -- the prices at position n, and nothing for each of the rest
 abbrev pub filled : ℕ → List Priced → List (List ℤ)

@@ -13,11 +13,11 @@ use Rattle.std.proofs.lemmas.List.{length-map}
 use Rattle.std.proofs.lemmas.List.Elements.{All-head, All-tail}
 use Rattle.spa.specs.declared.aim.Aim.{Aim}
 use Rattle.spa.specs.declared.aim.Aim.TheVariants.{Greedy, Generous}
-use Rattle.spa.specs.declared.TheConstants.{MOST_PLACES}
+use Rattle.spa.specs.declared.TheConstants.{MAX_QUOTA}
 use Rattle.spa.specs.Text.{is_code, is_code_byte}
 use Rattle.spa.specs.Instance.{Supervisor, Project, Student, supervisor_codes, project_codes, student_codes}
 use Rattle.verdict.specs.Rows.{InRange}
-use Rattle.intake.specs.declared.TheConstants.{MOST_BYTES}
+use Rattle.intake.specs.declared.TheConstants.{MAX_BYTES}
 use Rattle.intake.specs.Parts.{Parts, IsRoundParts}
 use Rattle.intake.specs.Lines.{Row, Section, line, ended, sections, section_lines, aim_rows, supervisor_row, project_row, student_row, pair_rows, price_rows, round_text}
 use Rattle.intake.proofs.Widths.{Said, OfRows, OfLetters, widths, rows_said}
@@ -42,7 +42,7 @@ code_short x h =
     grind (arith, nat_tests)
 
 -- so is a quota
-quota_short : (q : ℕ) → q ≤ MOST_PLACES → length (decimal q) ≤ 3
+quota_short : (q : ℕ) → q ≤ MAX_QUOTA → length (decimal q) ≤ 3
 quota_short q h = length-decimal-le 3 q (omega arith) (omega arith) (omega arith)
 
 -- and a number of a price
@@ -111,7 +111,7 @@ prices_few (c ∷ cs) [] = omega arith
 prices_few (c ∷ cs) (v ∷ vs) = (let r = prices_few cs vs in omega (arith, r))
 
 -- the text of parts has no more than the largest number of bytes
-pub text_small : (p : Parts) → IsRoundParts p → length (round_text p) ≤ MOST_BYTES
+pub text_small : (p : Parts) → IsRoundParts p → length (round_text p) ≤ MAX_BYTES
 text_small p v =
     let i = p.instance in
     let w = v.instance.within in

@@ -5,7 +5,7 @@ use Rattle.std.proofs.lemmas.List.{map_push, length_push, length-map}
 use Rattle.std.proofs.lemmas.List.Elements.{All-push, All-nil}
 use Rattle.spa.specs.Shape.{IsPlaceOf}
 use Rattle.spa.specs.declared.aim.Aim.{Aim}
-use Rattle.spa.specs.declared.TheConstants.{MOST_PLACES}
+use Rattle.spa.specs.declared.TheConstants.{MAX_QUOTA}
 use Rattle.spa.specs.Text.{is_code}
 use Rattle.spa.specs.Instance.{Supervisor, Project, Student, supervisor_codes, project_codes, student_codes}
 use Rattle.spa.specs.Made.{IsSoundList}
@@ -95,8 +95,8 @@ pairs_none : (es : List Student) (ks : List (Option ℕ)) → ks ≡ [] → pair
 pairs_none es ks e = ap (pair_rows es) e ∙ no_pair_rows es
 
 -- quotas with one more
-quotas_push : {X : Type 0} (quota : X → ℕ) (es : List X) (e : X) → All (λ q. q ≤ MOST_PLACES) (map quota es) → quota e ≤ MOST_PLACES → All (λ q. q ≤ MOST_PLACES) (map quota (es ++ e ∷ []))
-quotas_push quota es e h few = subst (λ (l : List ℕ). All (λ q. q ≤ MOST_PLACES) l) (sym (map_push quota es e)) (All-push (λ q. q ≤ MOST_PLACES) (map quota es) (quota e) h few)
+quotas_push : {X : Type 0} (quota : X → ℕ) (es : List X) (e : X) → All (λ q. q ≤ MAX_QUOTA) (map quota es) → quota e ≤ MAX_QUOTA → All (λ q. q ≤ MAX_QUOTA) (map quota (es ++ e ∷ []))
+quotas_push quota es e h few = subst (λ (l : List ℕ). All (λ q. q ≤ MAX_QUOTA) l) (sym (map_push quota es e)) (All-push (λ q. q ≤ MAX_QUOTA) (map quota es) (quota e) h few)
 
 -- a draft with the entry is one, with the line of the row
 abbrev pub Step : (s : SectionName) → Parts → Row → Entry s → Type 0

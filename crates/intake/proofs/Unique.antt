@@ -9,7 +9,7 @@ use Rattle.std.proofs.lemmas.List.Elements.{All-head, All-tail}
 use Rattle.spa.specs.Shape.{IsPlaceOf}
 use Rattle.spa.specs.declared.aim.Aim.{Aim}
 use Rattle.spa.specs.declared.aim.Aim.TheVariants.{Greedy, Generous}
-use Rattle.spa.specs.declared.TheConstants.{MOST_PLACES}
+use Rattle.spa.specs.declared.TheConstants.{MAX_QUOTA}
 use Rattle.spa.specs.Codes.{code_at, AreApart}
 use Rattle.spa.specs.Instance.{Supervisor, Project, Student, project_codes}
 use Rattle.spa.specs.Made.{IsSoundList}
@@ -30,19 +30,19 @@ use Rattle.intake.proofs.Sections.{fields_of, sections_back, SameRows, same_rows
 use Rattle.intake.proofs.Takes.{same_students, rise_tail, before_others, first_pair}
 
 -- quotas that are written the same are the same
-same_quota : (m n : ℕ) → m ≤ MOST_PLACES → n ≤ MOST_PLACES → decimal m ≡ decimal n → m ≡ n
+same_quota : (m n : ℕ) → m ≤ MAX_QUOTA → n ≤ MAX_QUOTA → decimal m ≡ decimal n → m ≡ n
 same_quota m n h i e = decimal_injective m n (omega arith) (omega arith) e
 
 -- entries with the same rows are the same, where their quotas say so of each
-same_entries : {X : Type 0} (row : X → Row) (quota : X → ℕ) → ((x y : X) → quota x ≤ MOST_PLACES → quota y ≤ MOST_PLACES → row x ≡ row y → x ≡ y) → (xs ys : List X) → All (λ q. q ≤ MOST_PLACES) (map quota xs) → All (λ q. q ≤ MOST_PLACES) (map quota ys) → map row xs ≡ map row ys → xs ≡ ys
+same_entries : {X : Type 0} (row : X → Row) (quota : X → ℕ) → ((x y : X) → quota x ≤ MAX_QUOTA → quota y ≤ MAX_QUOTA → row x ≡ row y → x ≡ y) → (xs ys : List X) → All (λ q. q ≤ MAX_QUOTA) (map quota xs) → All (λ q. q ≤ MAX_QUOTA) (map quota ys) → map row xs ≡ map row ys → xs ≡ ys
 same_entries row quota one [] [] a b e = refl
 same_entries row quota one [] (y ∷ ys) a b e = cc
 same_entries row quota one (x ∷ xs) [] a b e = cc
 same_entries {X = X} row quota one (x ∷ xs) (y ∷ ys) a b e =
     let first : row x ≡ row y = cc in
     let rest : map row xs ≡ map row ys = cc in
-    ap (λ (z : X). z ∷ xs) (one x y (All-head (λ q. q ≤ MOST_PLACES) (quota x) (map quota xs) a) (All-head (λ q. q ≤ MOST_PLACES) (quota y) (map quota ys) b) first)
-    ∙ ap (λ (l : List X). y ∷ l) (same_entries row quota one xs ys (All-tail (λ q. q ≤ MOST_PLACES) (quota x) (map quota xs) a) (All-tail (λ q. q ≤ MOST_PLACES) (quota y) (map quota ys) b) rest)
+    ap (λ (z : X). z ∷ xs) (one x y (All-head (λ q. q ≤ MAX_QUOTA) (quota x) (map quota xs) a) (All-head (λ q. q ≤ MAX_QUOTA) (quota y) (map quota ys) b) first)
+    ∙ ap (λ (l : List X). y ∷ l) (same_entries row quota one xs ys (All-tail (λ q. q ≤ MAX_QUOTA) (quota x) (map quota xs) a) (All-tail (λ q. q ≤ MAX_QUOTA) (quota y) (map quota ys) b) rest)
 
 -- aims with the same rows are the same
 same_aim : (a b : Aim) → aim_rows a ≡ aim_rows b → a ≡ b
@@ -52,7 +52,7 @@ same_aim Generous Greedy e = cc
 same_aim Generous Generous e = refl
 
 -- so they do of a supervisor
-same_supervisor : (x y : Supervisor) → x.quota ≤ MOST_PLACES → y.quota ≤ MOST_PLACES → supervisor_row x ≡ supervisor_row y → x ≡ y
+same_supervisor : (x y : Supervisor) → x.quota ≤ MAX_QUOTA → y.quota ≤ MAX_QUOTA → supervisor_row x ≡ supervisor_row y → x ≡ y
 same_supervisor x y h i e =
     let code : x.code ≡ y.code = cc in
     let number : decimal x.quota ≡ decimal y.quota = cc in
@@ -60,7 +60,7 @@ same_supervisor x y h i e =
     ∙ ap (λ (q : ℕ). let s : Supervisor = record { code = y.code; quota = q } in s) (same_quota x.quota y.quota h i number)
 
 -- and of a project
-same_project : (x y : Project) → x.quota ≤ MOST_PLACES → y.quota ≤ MOST_PLACES → project_row x ≡ project_row y → x ≡ y
+same_project : (x y : Project) → x.quota ≤ MAX_QUOTA → y.quota ≤ MAX_QUOTA → project_row x ≡ project_row y → x ≡ y
 same_project x y h i e =
     let number : decimal x.quota ≡ decimal y.quota = cc in
     let code : x.code ≡ y.code = cc in

@@ -6,7 +6,7 @@ use Rattle.std.proofs.lemmas.List.{length-map, get_or_default}
 use Rattle.std.proofs.lemmas.List.Elements.{All-nil, All-cons, All-head, All-tail}
 use Rattle.spa.specs.declared.aim.Aim.{Aim}
 use Rattle.spa.specs.Shape.{IsPlaceOf}
-use Rattle.spa.specs.declared.TheConstants.{PLACES, RANKS, MOST_PLACES}
+use Rattle.spa.specs.declared.TheConstants.{COMPONENTS, RANKS, MAX_QUOTA}
 use Rattle.spa.specs.Text.{is_code}
 use Rattle.spa.specs.Codes.{code_at, AreApart}
 use Rattle.spa.specs.Instance.{Supervisor, Project, Student, supervisor_codes, project_codes, student_codes}
@@ -25,16 +25,16 @@ use Rattle.intake.proofs.Unique.{one_listed}
 use Rattle.intake.proofs.RestOfText.{named_supervisors, named_projects, named_students}
 
 -- the quotas of supervisors by codes
-supervisor_quotas : (cs : List (List ℕ)) (qs : List ℕ) → All (λ q. q ≤ MOST_PLACES) qs → All (λ q. q ≤ MOST_PLACES) (map (λ e. e.quota) (supervisors_named cs qs))
-supervisor_quotas [] qs h = All-nil (λ q. q ≤ MOST_PLACES)
-supervisor_quotas (c ∷ cs) [] h = All-nil (λ q. q ≤ MOST_PLACES)
-supervisor_quotas (c ∷ cs) (q ∷ qs) h = All-cons (λ q. q ≤ MOST_PLACES) q (map (λ (e : Supervisor). e.quota) (supervisors_named cs qs)) (All-head (λ q. q ≤ MOST_PLACES) q qs h) (supervisor_quotas cs qs (All-tail (λ q. q ≤ MOST_PLACES) q qs h))
+supervisor_quotas : (cs : List (List ℕ)) (qs : List ℕ) → All (λ q. q ≤ MAX_QUOTA) qs → All (λ q. q ≤ MAX_QUOTA) (map (λ e. e.quota) (supervisors_named cs qs))
+supervisor_quotas [] qs h = All-nil (λ q. q ≤ MAX_QUOTA)
+supervisor_quotas (c ∷ cs) [] h = All-nil (λ q. q ≤ MAX_QUOTA)
+supervisor_quotas (c ∷ cs) (q ∷ qs) h = All-cons (λ q. q ≤ MAX_QUOTA) q (map (λ (e : Supervisor). e.quota) (supervisors_named cs qs)) (All-head (λ q. q ≤ MAX_QUOTA) q qs h) (supervisor_quotas cs qs (All-tail (λ q. q ≤ MAX_QUOTA) q qs h))
 
 -- and of projects
-project_quotas : (ss cs : List (List ℕ)) (ps : List (ℕ × ℕ)) → All (λ p. p.1 ≤ MOST_PLACES) ps → All (λ q. q ≤ MOST_PLACES) (map (λ e. e.quota) (projects_named ss cs ps))
-project_quotas ss [] ps h = All-nil (λ q. q ≤ MOST_PLACES)
-project_quotas ss (c ∷ cs) [] h = All-nil (λ q. q ≤ MOST_PLACES)
-project_quotas ss (c ∷ cs) (p ∷ ps) h = All-cons (λ q. q ≤ MOST_PLACES) p.1 (map (λ (e : Project). e.quota) (projects_named ss cs ps)) (All-head (λ (p : ℕ × ℕ). p.1 ≤ MOST_PLACES) p ps h) (project_quotas ss cs ps (All-tail (λ (p : ℕ × ℕ). p.1 ≤ MOST_PLACES) p ps h))
+project_quotas : (ss cs : List (List ℕ)) (ps : List (ℕ × ℕ)) → All (λ p. p.1 ≤ MAX_QUOTA) ps → All (λ q. q ≤ MAX_QUOTA) (map (λ e. e.quota) (projects_named ss cs ps))
+project_quotas ss [] ps h = All-nil (λ q. q ≤ MAX_QUOTA)
+project_quotas ss (c ∷ cs) [] h = All-nil (λ q. q ≤ MAX_QUOTA)
+project_quotas ss (c ∷ cs) (p ∷ ps) h = All-cons (λ q. q ≤ MAX_QUOTA) p.1 (map (λ (e : Project). e.quota) (projects_named ss cs ps)) (All-head (λ (p : ℕ × ℕ). p.1 ≤ MAX_QUOTA) p ps h) (project_quotas ss cs ps (All-tail (λ (p : ℕ × ℕ). p.1 ≤ MAX_QUOTA) p ps h))
 
 -- a project's supervisor is known
 offered_named : (ss cs : List (List ℕ)) (ps : List (ℕ × ℕ)) → All (λ p. p.0 < length ss) ps → All (λ e. Contains ss e.supervisor) (projects_named ss cs ps)
@@ -103,7 +103,7 @@ unplaced_named codes (c ∷ cs) [] h = absurd (omega arith)
 unplaced_named codes (c ∷ cs) (l ∷ ls) h = (tt, unplaced_named codes cs ls (omega arith))
 
 -- prices of as many entries
-priced : (m n : ℕ) (vs : List (List ℤ)) → m ≡ n → length vs ≡ n → All (λ v. length v ≡ PLACES) vs → AllInRange vs → ArePricesOrNone m vs
+priced : (m n : ℕ) (vs : List (List ℤ)) → m ≡ n → length vs ≡ n → All (λ v. length v ≡ COMPONENTS) vs → AllInRange vs → ArePricesOrNone m vs
 priced m n vs e h numbers range = record {
   none_or_all = inr (omega arith);
   prices = λ k d l. record { numbers = numbers k d l; range = subst EachInRange (get_or_default vs k [] d l) (range k l) };
@@ -127,9 +127,9 @@ pub record HasRises (i : Named) : Type 0 where
 
 -- each price has its numbers
 pub record HasNumbers (p : Prices) : Type 0 where
-  pub students : All (λ v. length v ≡ PLACES) p.students.items
-  pub projects : All (λ v. length v ≡ PLACES) p.projects.items
-  pub supervisors : All (λ v. length v ≡ PLACES) p.supervisors.items
+  pub students : All (λ v. length v ≡ COMPONENTS) p.students.items
+  pub projects : All (λ v. length v ≡ COMPONENTS) p.projects.items
+  pub supervisors : All (λ v. length v ≡ COMPONENTS) p.supervisors.items
 
 -- codes of a roll, said of those that name it
 roll : (cs ds : List (List ℕ)) → cs ≡ ds → All (λ c. IsTrue (is_code c)) ds → Rise cs → IsRoll cs

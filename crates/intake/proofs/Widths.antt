@@ -5,7 +5,7 @@ use Rattle.std.specs.Prelude.{IsTrue, ⊤}
 use Rattle.std.proofs.lemmas.List.Elements.{All-nil, All-cons, All-head, All-tail, All-map, All-contains}
 use Rattle.spa.specs.declared.aim.Aim.{Aim}
 use Rattle.spa.specs.declared.aim.Aim.TheVariants.{Greedy, Generous}
-use Rattle.spa.specs.declared.TheConstants.{MOST_PLACES, RANKS, PLACES}
+use Rattle.spa.specs.declared.TheConstants.{MAX_QUOTA, RANKS, COMPONENTS}
 use Rattle.spa.specs.Text.{is_code}
 use Rattle.spa.specs.Codes.{code_at}
 use Rattle.spa.specs.Instance.{Instance, Supervisor, Project, Student, supervisor_codes, project_codes, student_codes}
@@ -21,7 +21,7 @@ pub record Said (F : ℕ → List ℕ → Type 0) (R : ℕ → Row → Type 0) :
   pub code : (x : List ℕ) → is_code x ≡ true → F 16 x
   pub blank : F 16 []
   pub aim : F 8 (codes "generous")
-  pub quota : (n : ℕ) → n ≤ MOST_PLACES → F 3 (decimal n)
+  pub quota : (n : ℕ) → n ≤ MAX_QUOTA → F 3 (decimal n)
   pub number : (n : ℤ) → InRange n → F 8 (signed_decimal n)
   pub none : R 0 []
   pub more : (w k m : ℕ) (x : List ℕ) (r : Row) → F w x → R k r → suc (w + k) ≤ m → R m (x ∷ r)
@@ -44,7 +44,7 @@ list_width = 17 + 17 * RANKS
 
 -- the width of a code with a price
 abbrev pub price_width : ℕ
-price_width = 17 + 9 * PLACES
+price_width = 17 + 9 * COMPONENTS
 
 -- the widths of the rows of the eight sections
 abbrev pub widths : List ℕ
@@ -55,8 +55,8 @@ code_found : {X : Type 0} (key : X → List ℕ) (es : List X) (n : ℕ) (e : X)
 code_found key es n e h here = all_found (λ c. IsTrue (is_code c)) (map key es) n (key e) h (get_mapped key es n e here)
 
 -- its quota is one of all
-pub quota_found : {X : Type 0} (quota : X → ℕ) (es : List X) (n : ℕ) (e : X) → All (λ q. q ≤ MOST_PLACES) (map quota es) → slice_get es n ≡ Some e → quota e ≤ MOST_PLACES
-quota_found quota es n e h here = all_found (λ q. q ≤ MOST_PLACES) (map quota es) n (quota e) h (get_mapped quota es n e here)
+pub quota_found : {X : Type 0} (quota : X → ℕ) (es : List X) (n : ℕ) (e : X) → All (λ q. q ≤ MAX_QUOTA) (map quota es) → slice_get es n ≡ Some e → quota e ≤ MAX_QUOTA
+quota_found quota es n e h here = all_found (λ q. q ≤ MAX_QUOTA) (map quota es) n (quota e) h (get_mapped quota es n e here)
 
 -- what is said of fields and rows is said of the sections
 module _ (F : ℕ → List ℕ → Type 0) (R : ℕ → Row → Type 0) (s : Said F R) where
@@ -70,7 +70,7 @@ module _ (F : ℕ → List ℕ → Type 0) (R : ℕ → Row → Type 0) (s : Sai
   aim_said Generous = All-cons (R 9) (codes "generous" ∷ []) [] (s.more 8 0 9 (codes "generous") [] s.aim s.none (omega arith)) (All-nil (R 9))
 
   -- a quota at the end of a row
-  last_quota : (n : ℕ) → n ≤ MOST_PLACES → R 4 (decimal n ∷ [])
+  last_quota : (n : ℕ) → n ≤ MAX_QUOTA → R 4 (decimal n ∷ [])
   last_quota n h = s.more 3 0 4 (decimal n) [] (s.quota n h) s.none (omega arith)
 
   -- the rows of supervisors

@@ -5,7 +5,7 @@ use Rattle.std.specs.declared.cmp.Ordering.TheVariants.{Less}
 use Rattle.std.specs.declared.cmp.Ordering.{Ordering}
 use Rattle.std.specs.Ordering.{nat_cmp}
 use Rattle.std.specs.Cmp.Lexicographic.{slice_cmp}
-use Rattle.spa.specs.declared.TheConstants.{PLACES}
+use Rattle.spa.specs.declared.TheConstants.{COMPONENTS}
 use Rattle.spa.specs.declared.aim.Aim.{Aim}
 use Rattle.spa.specs.Text.{is_code}
 use Rattle.spa.specs.Shape.{IsPlaceOf}
@@ -41,7 +41,7 @@ IsPlace e place = IfSome place (IsPlaceOf e.list)
 
 -- a price has a number for the size and one for each rank, each from -1,000,000 to 1,000,000
 pub record IsPrice (v : List ℤ) : Type 0 where
-  pub numbers : length v ≡ PLACES
+  pub numbers : length v ≡ COMPONENTS
   pub range : EachInRange v
 
 -- no price, or one for each of n entries

@@ -1,7 +1,7 @@
 -- What a text is read as: its parts, or the first line up to which its lines begin no round text.
 use Rattle.std.specs.Prelude.{◌≡◌, ℕ, ◌+◌, ◌<◌, ◌≤◌, ◌==◌, List, ◌++◌, length, take, ⊤, Result, Ok, Err}
 use Rattle.std.specs.List.{slice_split}
-use Rattle.intake.specs.declared.TheConstants.{MOST_BYTES}
+use Rattle.intake.specs.declared.TheConstants.{MAX_BYTES}
 use Rattle.intake.specs.declared.round.RoundParts.{RoundParts}
 use Rattle.intake.specs.declared.round.RoundFault.{RoundFault}
 use Rattle.intake.specs.declared.round.RoundFault.TheVariants.{Memory, TooLarge, Line}
@@ -29,10 +29,10 @@ pub record IsFirstBadLine (text : List ℕ) (n : ℕ) : Type 0 where
 
 -- the text is that of the parts, or the fault is its own; out of memory may take the place of any
 abbrev pub IsReading : List ℕ → Result RoundParts RoundFault → Type 0
-IsReading text (Ok r) = IsRoundParts (parts_read r) × (text ≡ round_text (parts_read r)) × (length text ≤ MOST_BYTES)
+IsReading text (Ok r) = IsRoundParts (parts_read r) × (text ≡ round_text (parts_read r)) × (length text ≤ MAX_BYTES)
 IsReading text (Err Memory) = ⊤
-IsReading text (Err TooLarge) = MOST_BYTES < length text
-IsReading text (Err (Line n)) = (length text ≤ MOST_BYTES) × IsFirstBadLine text n
+IsReading text (Err TooLarge) = MAX_BYTES < length text
+IsReading text (Err (Line n)) = (length text ≤ MAX_BYTES) × IsFirstBadLine text n
 
 -- what the text of parts may be read as: these parts; out of memory may take their place
 abbrev pub IsReadBack : Parts → Result RoundParts RoundFault → Type 0

@@ -17,8 +17,8 @@ use crate::round::RoundParts;
 use crate::section::{SectionName, section_of};
 use arrayvec::ArrayVec;
 use spa::{
-    Aim, Code, Guesses, Instance, InstanceFault, MOST_PROJECTS, MOST_STUDENTS, MOST_SUPERVISORS,
-    Matching, PLACES, RANKS,
+    Aim, COMPONENTS, Code, Guesses, Instance, InstanceFault, MAX_PROJECTS, MAX_STUDENTS,
+    MAX_SUPERVISORS, Matching, RANKS,
 };
 use std::alloc::{AllocError, Global};
 use verdict::Prices;
@@ -67,7 +67,7 @@ fn read_list(
 
 /// Adds the price of the next entry of a roll.
 fn add_price<E: Coded>(
-    prices: &mut Vec<[i64; PLACES]>,
+    prices: &mut Vec<[i64; COMPONENTS]>,
     roll: &[E],
     fields: &[&[u8]],
 ) -> Result<bool, AllocError>
@@ -102,7 +102,7 @@ fn fill(places: &mut Vec<Option<u8>>, len: usize) -> Result<(), AllocError>
 }
 
 /// Whether there is no price, or one for each entry.
-fn is_none_or_all(prices: &[[i64; PLACES]], entries: usize) -> bool
+fn is_none_or_all(prices: &[[i64; COMPONENTS]], entries: usize) -> bool
     ensures { IsTrue result ↔ NoneOrAll entries prices.now }
 {
     prices.is_empty() || prices.len() == entries
@@ -199,7 +199,7 @@ impl PartialRound {
         let [code, quota] = fields else {
             return Ok(false);
         };
-        let Some(code) = next_code(&self.supervisors, MOST_SUPERVISORS, code) else {
+        let Some(code) = next_code(&self.supervisors, MAX_SUPERVISORS, code) else {
             return Ok(false);
         };
         let Some(quota) = read_quota(quota) else {
@@ -219,7 +219,7 @@ impl PartialRound {
         let [code, supervisor, quota] = fields else {
             return Ok(false);
         };
-        let Some(code) = next_code(&self.projects, MOST_PROJECTS, code) else {
+        let Some(code) = next_code(&self.projects, MAX_PROJECTS, code) else {
             return Ok(false);
         };
         let Some(quota) = read_quota(quota) else {
@@ -244,7 +244,7 @@ impl PartialRound {
         let Some((code, list)) = fields.split_first() else {
             return Ok(false);
         };
-        let Some(code) = next_code(&self.students, MOST_STUDENTS, code) else {
+        let Some(code) = next_code(&self.students, MAX_STUDENTS, code) else {
             return Ok(false);
         };
         let Some(list) = read_list(alloc, &self.projects, &self.by_project, list)? else {
@@ -333,7 +333,7 @@ impl PartialRound {
         requires { IsDraft (draft_of self.old) }
         ensures { IfOk result (λ b. AddsLine (draft_of self.old) line.now (draft_of self.new) b) }
     {
-        let fields = pieces(alloc, line, b',', PLACES + 2)?;
+        let fields = pieces(alloc, line, b',', COMPONENTS + 2)?;
         self.add(alloc, &fields)
     }
 

@@ -8,7 +8,7 @@ ghost use Rattle.spa.specs.Text.{is_code};
 ghost use Rattle.verdict.specs.Rows.{InRange};
 ghost use Rattle.intake.specs.Parts.{IsPrice};
 
-use spa::{Code, MOST_PLACES, PLACES};
+use spa::{COMPONENTS, Code, MAX_QUOTA};
 use std::alloc::{AllocError, Global};
 use std::str;
 use verdict::LIMIT;
@@ -54,7 +54,7 @@ fn is_decimal(field: &[u8], quota: u32) -> bool
 
 /// Returns the quota that a field is.
 pub(crate) fn read_quota(field: &[u8]) -> Option<u32>
-    ensures { MatchOption result ((n : ℕ) → n ≤ MOST_PLACES → ¬ (field.now ≡ decimal n)) (λ n. (n ≤ MOST_PLACES) × (field.now ≡ decimal n)) }
+    ensures { MatchOption result ((n : ℕ) → n ≤ MAX_QUOTA → ¬ (field.now ≡ decimal n)) (λ n. (n ≤ MAX_QUOTA) × (field.now ≡ decimal n)) }
 {
     let Ok(text) = str::from_utf8(field) else {
         return None;
@@ -62,7 +62,7 @@ pub(crate) fn read_quota(field: &[u8]) -> Option<u32>
     let Ok(quota) = text.parse::<u32>() else {
         return None;
     };
-    if quota > MOST_PLACES {
+    if quota > MAX_QUOTA {
         return None;
     }
     if !is_decimal(field, quota) {
@@ -129,14 +129,14 @@ fn read_number(field: &[u8]) -> Option<i64>
 }
 
 /// Returns the price that fields are.
-pub(crate) fn read_price(fields: &[&[u8]]) -> Option<[i64; PLACES]>
+pub(crate) fn read_price(fields: &[&[u8]]) -> Option<[i64; COMPONENTS]>
     ensures { MatchOption result ((v : List ℤ) → IsPrice v → ¬ (map (λ f. f.now) fields.now ≡ map signed_decimal v)) (λ v. IsPrice v × (map (λ f. f.now) fields.now ≡ map signed_decimal v)) }
 {
-    if fields.len() != PLACES {
+    if fields.len() != COMPONENTS {
         return None;
     }
-    let mut price = [0; PLACES];
-    for t in 0..PLACES {
+    let mut price = [0; COMPONENTS];
+    for t in 0..COMPONENTS {
         let Some(number) = read_number(fields[t]) else {
             return None;
         };

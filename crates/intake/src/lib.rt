@@ -27,4 +27,4 @@ pub use round::{RoundFault, RoundParts};
 pub use write::write_round;
 
 /// The longest round text that is read, in bytes.
-pub const MOST_BYTES: usize = 524_288;
+pub const MAX_BYTES: usize = 524_288;

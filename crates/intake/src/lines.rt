@@ -6,7 +6,7 @@ ghost use Rattle.std.specs.Fmt.{signed_decimal};
 ghost use Rattle.spa.specs.Codes.{code_at};
 ghost use Rattle.intake.specs.Lines.{line, ended};
 
-use spa::{Code, PLACES};
+use spa::{COMPONENTS, Code};
 use std::alloc::AllocError;
 
 /// Appends a supervisor's line.
@@ -64,7 +64,7 @@ pub(crate) fn push_student(
 }
 
 /// Appends the numbers of a price as fields.
-fn push_numbers(out: &mut String, price: &[i64; PLACES]) -> Result<(), AllocError>
+fn push_numbers(out: &mut String, price: &[i64; COMPONENTS]) -> Result<(), AllocError>
     ensures { OnOk result (string_bytes out.new ≡ string_bytes out.old ++ flat_map (λ field. 44 ∷ field) (map signed_decimal price.now)) }
 {
     for number in price {
@@ -78,7 +78,7 @@ pub(crate) fn push_price(
     out: &mut String,
     letter: &str,
     code: &str,
-    price: &[i64; PLACES],
+    price: &[i64; COMPONENTS],
 ) -> Result<(), AllocError>
     ensures { OnOk result (string_bytes out.new ≡ string_bytes out.old ++ ended (line letter.now (code.now ∷ map signed_decimal price.now) ∷ [])) }
 {

@@ -5,7 +5,7 @@ ghost use Rattle.std.specs.Prelude.{◌≡◌, ◌↔◌, [], IsTrue};
 ghost use Rattle.intake.specs.Inside.PartialRound.{draft_of, IsWhole};
 ghost use Rattle.intake.specs.Reading.{IsReading};
 
-use crate::MOST_BYTES;
+use crate::MAX_BYTES;
 use crate::draft::PartialRound;
 use crate::fields::pieces;
 use crate::round::{RoundFault, RoundParts};
@@ -23,7 +23,7 @@ fn may_end(draft: &PartialRound, last: &[u8]) -> bool
 pub fn read_round(alloc: Global, text: &[u8]) -> Result<RoundParts, RoundFault>
     ensures reading { IsReading text.now result }
 {
-    if text.len() > MOST_BYTES {
+    if text.len() > MAX_BYTES {
         return Err(RoundFault::TooLarge);
     }
     let lines = pieces(alloc, text, b'\n', 64)?;

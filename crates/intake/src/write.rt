@@ -3,19 +3,19 @@
 
 ghost use Rattle.std.specs.Prelude.{◌≡◌, ◌≤◌, ◌++◌, map, flat_map, drop, codes, IfOk, IfSome, OnOk, string_bytes, length, All, IsTrue};
 ghost use Rattle.spa.specs.Text.{is_code};
-ghost use Rattle.spa.specs.declared.TheConstants.{PLACES};
+ghost use Rattle.spa.specs.declared.TheConstants.{COMPONENTS};
 ghost use Rattle.spa.specs.declared.aim.Aim.{Aim};
 ghost use Rattle.spa.specs.Instance.{supervisor_codes, project_codes, student_codes};
 ghost use Rattle.spa.specs.Named.{Named, instance_of};
 ghost use Rattle.spa.specs.Matched.{IsMatched, HasPlaces};
 ghost use Rattle.verdict.specs.Verdict.{HasShape};
-ghost use Rattle.intake.specs.declared.TheConstants.{MOST_BYTES};
+ghost use Rattle.intake.specs.declared.TheConstants.{MAX_BYTES};
 ghost use Rattle.intake.specs.Parts.{Rise, IsRoundParts};
 ghost use Rattle.intake.specs.Lines.{Section, aim_rows, supervisor_row, project_row, student_row, pair_rows, price_rows, sections, section_lines, ended, instance_text, round_text};
 ghost use Rattle.intake.specs.View.{proved, written};
 
 use crate::lines::{push_pair, push_price, push_project, push_student, push_supervisor};
-use spa::{Aim, Code, Instance, Matching, PLACES};
+use spa::{Aim, COMPONENTS, Code, Instance, Matching};
 use std::alloc::{AllocError, Global};
 use verdict::Prices;
 
@@ -102,11 +102,11 @@ fn write_prices(
     out: &mut String,
     letter: &str,
     roll: &[Code],
-    prices: &[[i64; PLACES]],
+    prices: &[[i64; COMPONENTS]],
 ) -> Result<(), AllocError>
     requires { length prices.now ≡ length roll.now }
     ensures text { OnOk result (string_bytes out.new ≡ string_bytes out.old ++ ended (section_lines (record { letter = letter.now; rows = price_rows roll.now prices.now }))) }
-    ensures numbers { OnOk result (All (λ v. length v ≡ PLACES) prices.now) }
+    ensures numbers { OnOk result (All (λ v. length v ≡ COMPONENTS) prices.now) }
 {
     for n in 0..prices.len() {
         push_price(out, letter, roll[n].as_str(), &prices[n])?;
@@ -137,9 +137,9 @@ fn write_proof(
     requires places { HasPlaces instance.now.shape matching.now.places.items }
     requires shape { HasShape instance.now.shape prices.now }
     ensures text { OnOk result ((aim : Aim) → string_bytes out.new ≡ string_bytes out.old ++ ended (flat_map section_lines (drop 4 (sections (proved instance.now aim matching.now.places.items prices.now))))) }
-    ensures students { OnOk result (All (λ v. length v ≡ PLACES) prices.now.students.items) }
-    ensures projects { OnOk result (All (λ v. length v ≡ PLACES) prices.now.projects.items) }
-    ensures supervisors { OnOk result (All (λ v. length v ≡ PLACES) prices.now.supervisors.items) }
+    ensures students { OnOk result (All (λ v. length v ≡ COMPONENTS) prices.now.students.items) }
+    ensures projects { OnOk result (All (λ v. length v ≡ COMPONENTS) prices.now.projects.items) }
+    ensures supervisors { OnOk result (All (λ v. length v ≡ COMPONENTS) prices.now.supervisors.items) }
 {
     instance.fit();
     write_pairs(out, instance, &matching.places)?;
@@ -167,7 +167,7 @@ pub fn write_round(
     ensures text { IfOk result (λ text. string_bytes text ≡ round_text (written instance.now aim proof.entry)) }
 
     // It is never too large to be read.
-    ensures small { IfOk result (λ text. length (string_bytes text) ≤ MOST_BYTES) }
+    ensures small { IfOk result (λ text. length (string_bytes text) ≤ MAX_BYTES) }
 
     // So the law of round texts holds of them.
     ensures parts { OnOk result (IsRoundParts (written instance.now aim proof.entry)) }

@@ -1,17 +1,17 @@
 -- What is counted of a fit office is small.
 use Rattle.std.proofs.Common.{ℕ, ◌≤◌, Bool, length, count_by, arith}
 use Rattle.std.proofs.lemmas.List.Sums.{count_by-le-length}
-use Rattle.spa.specs.declared.TheConstants.{MOST_STUDENTS}
+use Rattle.spa.specs.declared.TheConstants.{MAX_STUDENTS}
 use Rattle.rolls.specs.declared.rounds.Placement.{Placement}
 use Rattle.rolls.specs.State.{State, lists_of}
 use Rattle.rolls.specs.Fit.{IsFit}
 use Rattle.rolls.proofs.NoMoreThanFound.{few_placed, few_lists}
 
-pub placements_few : (o : State) → IsFit o → length o.placements ≤ MOST_STUDENTS
+pub placements_few : (o : State) → IsFit o → length o.placements ≤ MAX_STUDENTS
 placements_few o fit = let few = few_placed o fit in omega (arith, few, fit.students.few)
 
-pub counted_few : (o : State) → IsFit o → (p : Placement → Bool) → count_by p o.placements ≤ MOST_STUDENTS
+pub counted_few : (o : State) → IsFit o → (p : Placement → Bool) → count_by p o.placements ≤ MAX_STUDENTS
 counted_few o fit p = let some = count_by-le-length p o.placements in let few = placements_few o fit in omega (arith, some, few)
 
-pub lists_few : (o : State) → IsFit o → (n : ℕ) → length (lists_of o n) ≤ MOST_STUDENTS
+pub lists_few : (o : State) → IsFit o → (n : ℕ) → length (lists_of o n) ≤ MAX_STUDENTS
 lists_few o fit n = let few = few_lists o fit n in omega (arith, few, fit.students.few)

@@ -4,7 +4,7 @@ use Rattle.std.proofs.Common.{◌≡◌, ℕ, suc, ◌+◌, List, [], ◌∷◌,
 use Rattle.std.proofs.lemmas.List.{append_assoc, append-nil}
 use Rattle.std.specs.Prelude.{◌&&◌, not, nat_le, Bool, true, false, is_some, Ok, if◌then◌else◌}
 use Rattle.std.specs.Option.{option_map, unwrap_or}
-use Rattle.rolls.specs.declared.TheConstants.{MOST_IMPORTS}
+use Rattle.rolls.specs.declared.TheConstants.{MAX_IMPORTS}
 use Rattle.rolls.specs.declared.import.Import.{Import}
 use Rattle.rolls.specs.declared.import.ImportKind.{ImportKind}
 use Rattle.rolls.specs.declared.request.Reply.TheVariants as reply
@@ -140,9 +140,9 @@ module _ (id : List ℕ) (kind : ImportKind) (bytes : List ℕ) (rows : List Pla
       private_same = ap (λ (o : State). o.imports) made.after ∙ keep_none rows old
 
       -- there is room for it still
-      pub still_room : (not (has_import mid id) && nat_le MOST_IMPORTS (length mid.imports)) ≡ false
+      pub still_room : (not (has_import mid id) && nat_le MAX_IMPORTS (length mid.imports)) ≡ false
       still_room =
-          ap (λ (is : List Import). not (is_some (find import_key (of_code id) is)) && nat_le MOST_IMPORTS (length is)) private_same
+          ap (λ (is : List Import). not (is_some (find import_key (of_code id) is)) && nat_le MAX_IMPORTS (length is)) private_same
           ∙ (allowed (import_tests old id kind bytes) passed).1.1.1.0
 
       -- its row is added

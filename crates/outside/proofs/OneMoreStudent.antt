@@ -8,7 +8,7 @@ use Rattle.std.proofs.lemmas.List.{length-map, length_push}
 use Rattle.std.proofs.lemmas.List.Elements.{All-push}
 use Rattle.std.proofs.lemmas.List.Folds.{find-append}
 use Rattle.std.proofs.lemmas.Slice.Eq.{bytes_eq-Decides}
-use Rattle.spa.specs.declared.TheConstants.{RANKS, MOST_STUDENTS}
+use Rattle.spa.specs.declared.TheConstants.{RANKS, MAX_STUDENTS}
 use Rattle.spa.specs.Codes.{code_at}
 use Rattle.spa.specs.Shape.{Shape}
 use Rattle.spa.specs.Instance as spa
@@ -94,7 +94,7 @@ names_pushed codes n m c names is new = record {
 
 -- the list may be admitted
 pub record MayAdmit (shape : Shape) (list : List ℕ) : Type 0 where
-  pub few : length shape.students < MOST_STUDENTS
+  pub few : length shape.students < MAX_STUDENTS
   pub some : 1 ≤ length list
   pub short : length list ≤ RANKS
   pub known : All (λ p. p < length shape.projects) list
@@ -202,7 +202,7 @@ module _ (o n : State) (student : List ℕ) (first : IsFirstList o student n) (o
     as_many = omega (arith, length-append l.students (listed own ∷ []), same.as_many, length-map (lists_of o (last_round o)) listed, length-map (lists_of n (last_round n)) listed, many_lists);
   }
 
-  module _ (fit : IsFit n) (few : length (lists_of n (last_round n)) ≤ MOST_STUDENTS) (i : Named) (sound : IsFitInstance i) (same : IsSameRound (instance_of i) (round_instance o)) (list : List ℕ) (ranking : IsRanking (project_codes (round_instance n)) (choices_in n (last_round n) student) list) where
+  module _ (fit : IsFit n) (few : length (lists_of n (last_round n)) ≤ MAX_STUDENTS) (i : Named) (sound : IsFitInstance i) (same : IsSameRound (instance_of i) (round_instance o)) (list : List ℕ) (ranking : IsRanking (project_codes (round_instance n)) (choices_in n (last_round n) student) list) where
     own_fits : ListFits n (last_round n) own
     own_fits = holds_of_found list_key (ListFits n (last_round n)) (0, student) (lists_of n (last_round n)) own (fit.lists_fit (last_round n)) found_own
 
@@ -253,7 +253,7 @@ module _ (o n : State) (student : List ℕ) (first : IsFirstList o student n) (o
 pub joins_listed : (n : State) (sitting : SessionState) (student : List ℕ) → MayJoin n sitting student → IsSome (list_of n (last_round n) student)
 joins_listed n sitting student joins = ap (λ (x : Option Listed). is_some x) (found_own joins.before n student joins.put joins.sat.is_open)
 
-module _ (n : State) (sitting : SessionState) (student : List ℕ) (joins : MayJoin n sitting student) (fit : IsFit n) (few : length (lists_of n (last_round n)) ≤ MOST_STUDENTS) (list : List ℕ) (ranking : IsRanking (project_codes (round_instance n)) (choices_in n (last_round n) student) list) where
+module _ (n : State) (sitting : SessionState) (student : List ℕ) (joins : MayJoin n sitting student) (fit : IsFit n) (few : length (lists_of n (last_round n)) ≤ MAX_STUDENTS) (list : List ℕ) (ranking : IsRanking (project_codes (round_instance n)) (choices_in n (last_round n) student) list) where
   -- the list of a student who may join the session may be admitted
   pub joins_admitted : MayAdmit sitting.shape list
   joins_admitted = subst (λ (s : Shape). MayAdmit s list) joins.sat.here (may_admit joins.before n student joins.put joins.sat.is_open fit few joins.sat.named joins.sat.fit joins.sat.same list ranking)

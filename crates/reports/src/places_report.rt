@@ -2,7 +2,7 @@
 
 ghost use Rattle.std.specs.Prelude.{◌≡◌, ◌<◌, ◌++◌, ◌∷◌, [], ℕ, Some, IfOk, OnOk, slice_get, string_bytes, flat_map, filter};
 ghost use Rattle.std.specs.Str.{bytes_eq};
-ghost use Rattle.spa.specs.declared.TheConstants.{MOST_PROJECTS, MOST_SUPERVISORS};
+ghost use Rattle.spa.specs.declared.TheConstants.{MAX_PROJECTS, MAX_SUPERVISORS};
 ghost use Rattle.rolls.specs.State.{State};
 ghost use Rattle.reports.specs.Inside.Texts.{AreLoads, own_rows, project_row, rows_of};
 ghost use Rattle.reports.specs.Texts.{left, load_row, right};
@@ -64,8 +64,8 @@ fn push_project(
     position: usize,
     project: &Project,
 ) -> Result<(), AllocError>
-    requires supervisor { at < MOST_SUPERVISORS }
-    requires project { position < MOST_PROJECTS }
+    requires supervisor { at < MAX_SUPERVISORS }
+    requires project { position < MAX_PROJECTS }
     ensures { OnOk result ((o : State) (n : ℕ) → slice_get o.supervisors at ≡ Some supervisor.now → slice_get o.projects position ≡ Some project.now → AreLoads o n counts.now → string_bytes out.new ≡ string_bytes out.old ++ flat_map (project_row told o n supervisor.now) (filter (λ p. let s = supervisor.now in bytes_eq s.code p.supervisor) (project.now ∷ []))) }
 {
     if supervisor.code.as_str() == project.supervisor.as_str() {
@@ -94,7 +94,7 @@ fn push_offered(
     at: usize,
     supervisor: &Supervisor,
 ) -> Result<(), AllocError>
-    requires { at < MOST_SUPERVISORS }
+    requires { at < MAX_SUPERVISORS }
     ensures { OnOk result ((n : ℕ) → slice_get (let o = office.now in o.supervisors) at ≡ Some supervisor.now → AreLoads office.now n counts.now → string_bytes out.new ≡ string_bytes out.old ++ own_rows told office.now n supervisor.now) }
 {
     office.fit();
@@ -122,7 +122,7 @@ fn push_supervisor(
     at: usize,
     supervisor: &Supervisor,
 ) -> Result<(), AllocError>
-    requires { at < MOST_SUPERVISORS }
+    requires { at < MAX_SUPERVISORS }
     ensures { OnOk result ((n : ℕ) → slice_get (let o = office.now in o.supervisors) at ≡ Some supervisor.now → AreLoads office.now n counts.now → string_bytes out.new ≡ string_bytes out.old ++ rows_of told office.now n supervisor.now) }
 {
     if let Places::Loads = told {

@@ -3,7 +3,7 @@ use Rattle.std.specs.Prelude.{◌≡◌, ℕ, ◌≤◌, ◌&&◌, nat_le, Bool,
 use Rattle.std.specs.Option.{option_map_or}
 use Rattle.std.specs.List.{AllByRecursion}
 use Rattle.std.specs.Str.{bytes_eq}
-use Rattle.spa.specs.declared.TheConstants.{MOST_SUPERVISORS, MOST_PROJECTS}
+use Rattle.spa.specs.declared.TheConstants.{MAX_SUPERVISORS, MAX_PROJECTS}
 use Rattle.spa.specs.Counted.{Counted}
 use Rattle.rolls.specs.declared.entries.Supervisor.{Supervisor}
 use Rattle.rolls.specs.declared.entries.Project.{Project}
@@ -24,8 +24,8 @@ offers projects supervisor project = option_map_or (λ p. bytes_eq supervisor p.
 pub record AreRolls (supervisors : List Supervisor) (projects : List Project) : Type 0 where
   pub supervisors_rise : IsTrue (rises supervisor_key supervisors)
   pub projects_rise : IsTrue (rises project_key projects)
-  pub few_supervisors : length supervisors ≤ MOST_SUPERVISORS
-  pub few_projects : length projects ≤ MOST_PROJECTS
+  pub few_supervisors : length supervisors ≤ MAX_SUPERVISORS
+  pub few_projects : length projects ≤ MAX_PROJECTS
   pub offered : AllByRecursion (λ p. IsTrue (has supervisor_key (of_code p.supervisor) supervisors)) projects
 
 -- how many of the placements that such rounds made are in a project

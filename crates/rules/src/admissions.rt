@@ -1,11 +1,11 @@
 //! Worked admissions to a network; the last test counts what this search compares.
 
 ghost use Rattle.std.specs.Prelude.{◌≡◌, ◌+◌, ◌<◌, ◌≤◌, length, IsTrue, All};
-ghost use Rattle.spa.specs.declared.TheConstants.{MOST_SUPERVISORS, MOST_PROJECTS, MOST_PLACES};
+ghost use Rattle.spa.specs.declared.TheConstants.{MAX_SUPERVISORS, MAX_PROJECTS, MAX_QUOTA};
 
 use network::{Admitted, Network};
 use rows::judged::holds;
-use spa::{Lex, MOST_PLACES, MOST_PROJECTS, MOST_STUDENTS, MOST_SUPERVISORS, PLACES, RANKS, Worth};
+use spa::{COMPONENTS, Lex, MAX_PROJECTS, MAX_QUOTA, MAX_STUDENTS, MAX_SUPERVISORS, RANKS, Worth};
 use std::alloc::Global;
 use std::marker::Model;
 use std::rt::HostRuntime;
@@ -14,23 +14,23 @@ use std::test::Fail;
 /// Whether the rolls are within the limits, and each project's supervisor is known.
 fn are_rolls(supervisors: &[u32], projects: &[(usize, u32)]) -> bool
     ensures offered { IsTrue result → All (λ p. p.0 < length supervisors.now) projects.now }
-    ensures supervisor_quotas { IsTrue result → All (λ q. q ≤ MOST_PLACES) supervisors.now }
-    ensures project_quotas { IsTrue result → All (λ p. p.1 ≤ MOST_PLACES) projects.now }
-    ensures few_supervisors { IsTrue result → length supervisors.now ≤ MOST_SUPERVISORS }
-    ensures few_projects { IsTrue result → length projects.now ≤ MOST_PROJECTS }
+    ensures supervisor_quotas { IsTrue result → All (λ q. q ≤ MAX_QUOTA) supervisors.now }
+    ensures project_quotas { IsTrue result → All (λ p. p.1 ≤ MAX_QUOTA) projects.now }
+    ensures few_supervisors { IsTrue result → length supervisors.now ≤ MAX_SUPERVISORS }
+    ensures few_projects { IsTrue result → length projects.now ≤ MAX_PROJECTS }
 {
-    supervisors.len() <= MOST_SUPERVISORS
-        && projects.len() <= MOST_PROJECTS
+    supervisors.len() <= MAX_SUPERVISORS
+        && projects.len() <= MAX_PROJECTS
         && are_quotas(supervisors)
         && are_offered(projects, supervisors.len())
 }
 
 /// Whether no quota is too large.
 fn are_quotas(quotas: &[u32]) -> bool
-    ensures { IsTrue result → All (λ q. q ≤ MOST_PLACES) quotas.now }
+    ensures { IsTrue result → All (λ q. q ≤ MAX_QUOTA) quotas.now }
 {
     for i in 0..quotas.len() {
-        if quotas[i] > MOST_PLACES {
+        if quotas[i] > MAX_QUOTA {
             return false;
         }
     }
@@ -40,11 +40,11 @@ fn are_quotas(quotas: &[u32]) -> bool
 /// Whether each project has a known supervisor, and no quota is too large.
 fn are_offered(projects: &[(usize, u32)], supervisors: usize) -> bool
     ensures offered { IsTrue result → All (λ p. p.0 < supervisors) projects.now }
-    ensures quotas { IsTrue result → All (λ p. p.1 ≤ MOST_PLACES) projects.now }
+    ensures quotas { IsTrue result → All (λ p. p.1 ≤ MAX_QUOTA) projects.now }
 {
     for i in 0..projects.len() {
         let (supervisor, quota) = projects[i];
-        if supervisor >= supervisors || quota > MOST_PLACES {
+        if supervisor >= supervisors || quota > MAX_QUOTA {
             return false;
         }
     }
@@ -67,9 +67,9 @@ fn is_list<G: Worth>(list: &[(usize, G)], projects: usize) -> bool
 
 /// Returns the worth of a pair of this rank, from 1.
 fn weight(rank: usize) -> Lex {
-    let mut places = [0; PLACES];
+    let mut places = [0; COMPONENTS];
     places[0] = 1;
-    if rank < PLACES {
+    if rank < COMPONENTS {
         places[rank] = 1;
     }
     Lex(places)
@@ -111,7 +111,7 @@ impl<G: Worth> Trial<G> {
 
     /// Admits a student with this list.
     pub(crate) fn admit(&mut self, list: &[(usize, G)]) -> Result<Admitted, Fail> {
-        let is_next = self.students < MOST_STUDENTS && list.len() <= RANKS;
+        let is_next = self.students < MAX_STUDENTS && list.len() <= RANKS;
         holds(is_next && is_list(list, self.projects), "a list")?;
         let admitted = self.network.admit(list)?;
         self.students += 1;

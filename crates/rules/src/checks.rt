@@ -3,7 +3,7 @@
 use intake::read_round;
 use rows::cells::body_of;
 use rows::judged::{holds, well};
-use spa::{Aim, PLACES};
+use spa::{Aim, COMPONENTS};
 use std::rt::HostRuntime;
 use std::test::Fail;
 use verdict::{CheckFault, check};
@@ -18,7 +18,7 @@ fn what_no_text_can_say_is_a_fault(rt: HostRuntime) -> Result<(), Fail> {
     let alloc = rt.alloc();
     let text = body_of(alloc, WORKED)?;
     let mut parts = well(read_round(alloc, &text), "the worked text")?;
-    let mut price = [0; PLACES];
+    let mut price = [0; COMPONENTS];
     price[1] = 1_000_001;
     parts.prices.supervisors = Vec::from_array(alloc, [price])?;
     let fault = check(&parts.instance, Aim::Greedy, &parts.matching, &parts.prices).err();

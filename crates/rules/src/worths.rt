@@ -1,16 +1,16 @@
 //! The order and sums of worths.
 
 use rows::judged::holds;
-use spa::{Generous, Lex, PLACES, Worth};
+use spa::{COMPONENTS, Generous, Lex, Worth};
 use std::cmp::Ordering;
 use std::rt::HostRuntime;
 use std::test::Fail;
 
-fn row(size: i64, first: i64, last: i64) -> [i64; PLACES] {
-    let mut places = [0; PLACES];
+fn row(size: i64, first: i64, last: i64) -> [i64; COMPONENTS] {
+    let mut places = [0; COMPONENTS];
     places[0] = size;
     places[1] = first;
-    places[PLACES - 1] = last;
+    places[COMPONENTS - 1] = last;
     places
 }
 

@@ -5,10 +5,10 @@ use Rattle.spa.specs.Order.{Precedes, as_read, order, IsSettled}
 use Rattle.spa.specs.Inside.Reading.{read_alike}
 use Rattle.spa.specs.Shape.{Shape}
 use Rattle.spa.specs.Matching.{Pair, IsUnbeaten, IsMatching, weight_row}
-use Rattle.spa.specs.declared.TheConstants.{PLACES}
+use Rattle.spa.specs.declared.TheConstants.{COMPONENTS}
 
 -- rows with the same first places come before one another alike
-pub moved : (v w x y : ℕ → ℤ) → ((t : ℕ) → t < PLACES → v t ≡ w t) → ((t : ℕ) → t < PLACES → x t ≡ y t) → Precedes PLACES v x → Precedes PLACES w y
+pub moved : (v w x y : ℕ → ℤ) → ((t : ℕ) → t < COMPONENTS → v t ≡ w t) → ((t : ℕ) → t < COMPONENTS → x t ≡ y t) → Precedes COMPONENTS v x → Precedes COMPONENTS w y
 moved v w x y e f p =
     let a : v p.place ≡ w p.place = e p.place p.in_range in
     let b : x p.place ≡ y p.place = f p.place p.in_range in
@@ -19,11 +19,11 @@ moved v w x y e f p =
       smaller = subst (λ (z : ℤ). z <ℤ y p.place) a (subst (λ (z : ℤ). v p.place <ℤ z) b p.smaller);
     }
   where
-    below : (k : ℕ) → k < p.place → k < PLACES
+    below : (k : ℕ) → k < p.place → k < COMPONENTS
     below k h = let r = p.in_range in omega (arith, h, r)
 
 -- the same by an aim
-pub moved_by : (aim : Aim) (v w x y : ℕ → ℤ) → ((t : ℕ) → t < PLACES → v t ≡ w t) → ((t : ℕ) → t < PLACES → x t ≡ y t) → order aim v x → order aim w y
+pub moved_by : (aim : Aim) (v w x y : ℕ → ℤ) → ((t : ℕ) → t < COMPONENTS → v t ≡ w t) → ((t : ℕ) → t < COMPONENTS → x t ≡ y t) → order aim v x → order aim w y
 moved_by aim v w x y e f = moved (as_read aim v) (as_read aim w) (as_read aim x) (as_read aim y) (read_alike aim v w e) (read_alike aim x y f)
 
 -- what weighs no less than a best matching is best

@@ -1,7 +1,7 @@
 -- Lists with their worths, read by place.
 use Rattle.std.proofs.Common.{◌≡◌, ℕ, zero, suc, ◌+◌, ◌<◌, List, [], ◌∷◌, ◌++◌, length, map, take, slice_index, get_or, All, refl, ap, sym, ◌∙◌, arith, subst}
 use Rattle.spa.specs.Places.{Places}
-use Rattle.spa.specs.declared.TheConstants.{PLACES}
+use Rattle.spa.specs.declared.TheConstants.{COMPONENTS}
 use Rattle.solver.specs.Inside.Weights.{worth_of, weighed_from, weighed}
 use Rattle.spa.specs.declared.aim.Aim.{Aim}
 
@@ -31,14 +31,14 @@ module _ (aim : Aim) where
   length-weighed_from n (x ∷ xs) = ap suc (length-weighed_from (suc n) xs)
 
   -- the entry at a place
-  pub entry-weighed_from : (n k : ℕ) (xs : List ℕ) (d : ℕ × Places PLACES) → k < length xs → get_or (weighed_from aim n xs) k d ≡ (get_or xs k d.0, worth_of aim (n + k))
+  pub entry-weighed_from : (n k : ℕ) (xs : List ℕ) (d : ℕ × Places COMPONENTS) → k < length xs → get_or (weighed_from aim n xs) k d ≡ (get_or xs k d.0, worth_of aim (n + k))
   entry-weighed_from n k [] d h = absurd (omega arith)
   entry-weighed_from n zero (x ∷ xs) d h = ap (λ (m : ℕ). (x, worth_of aim m)) (omega arith)
   entry-weighed_from n (suc k) (x ∷ xs) d h =
       entry-weighed_from (suc n) k xs d (omega arith) ∙ ap (λ (m : ℕ). (get_or xs k d.0, worth_of aim m)) (omega arith)
 
   -- what holds of the projects and the worths holds of the entries
-  pub all-weighed : (P : ℕ × Places PLACES → Type 0) (list : List ℕ) → ((k d : ℕ) → k < length list → P (get_or list k d, worth_of aim (k + 1))) → All P (weighed aim list)
+  pub all-weighed : (P : ℕ × Places COMPONENTS → Type 0) (list : List ℕ) → ((k d : ℕ) → k < length list → P (get_or list k d, worth_of aim (k + 1))) → All P (weighed aim list)
   all-weighed P list each =
       λ k d h.
       let known : k < length list = subst (λ (n : ℕ). k < n) (length-weighed_from 1 list) h in

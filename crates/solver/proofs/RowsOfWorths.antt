@@ -3,7 +3,7 @@ use Rattle.std.proofs.Common.{◌≡◌, ℕ, zero, suc, ◌<◌, ◌≤◌, inl
 use Rattle.std.specs.Prelude.{unsigned_abs, neg_ℤ, ◌-◌}
 use Rattle.std.proofs.lemmas.Bool.{cases_lt}
 use Rattle.std.proofs.lemmas.List.{get_or_append_left, get_or_push, get_or_past, length_push}
-use Rattle.spa.specs.declared.TheConstants.{PLACES, RANKS}
+use Rattle.spa.specs.declared.TheConstants.{COMPONENTS, RANKS}
 use Rattle.std.proofs.lemmas.Int.{ints}
 use Rattle.spa.specs.declared.aim.Aim.{Aim}
 use Rattle.spa.specs.declared.aim.Aim.TheVariants.{Greedy, Generous}
@@ -20,16 +20,16 @@ use Rattle.solver.specs.Inside.Solved.{AreNumbersOf}
 use Rattle.spa.proofs.LexOrder.{row-zero}
 
 -- an aim reads nothing of zero
-zero_read : (aim : Aim) (t : ℕ) → as_read aim (row PLACES (lex_ops PLACES).zero) t ≡ pos 0
-zero_read aim zero = row-zero PLACES 0
-zero_read Greedy (suc k) = row-zero PLACES (suc k)
-zero_read Generous (suc k) = ap neg_ℤ (row-zero PLACES (suc (RANKS - suc k)))
+zero_read : (aim : Aim) (t : ℕ) → as_read aim (row COMPONENTS (lex_ops COMPONENTS).zero) t ≡ pos 0
+zero_read aim zero = row-zero COMPONENTS 0
+zero_read Greedy (suc k) = row-zero COMPONENTS (suc k)
+zero_read Generous (suc k) = ap neg_ℤ (row-zero COMPONENTS (suc (RANKS - suc k)))
 
 -- one row more
-pub rows_more : (aim : Aim) (rows : List (List ℤ)) (worths : List (Places PLACES)) (v : List ℤ) (w : Places PLACES) (m : ℕ) → length rows ≡ m
-    → ((n t : ℕ) → n < length rows → t < PLACES → price rows n t ≡ as_read aim (row PLACES (worth_price (lex_ops PLACES) worths n)) t)
-    → get_or worths m (lex_ops PLACES).zero ≡ w → ((t : ℕ) → t < PLACES → at v t ≡ as_read aim (row PLACES w) t)
-    → (n t : ℕ) → n < length (rows ++ v ∷ []) → t < PLACES → price (rows ++ v ∷ []) n t ≡ as_read aim (row PLACES (worth_price (lex_ops PLACES) worths n)) t
+pub rows_more : (aim : Aim) (rows : List (List ℤ)) (worths : List (Places COMPONENTS)) (v : List ℤ) (w : Places COMPONENTS) (m : ℕ) → length rows ≡ m
+    → ((n t : ℕ) → n < length rows → t < COMPONENTS → price rows n t ≡ as_read aim (row COMPONENTS (worth_price (lex_ops COMPONENTS) worths n)) t)
+    → get_or worths m (lex_ops COMPONENTS).zero ≡ w → ((t : ℕ) → t < COMPONENTS → at v t ≡ as_read aim (row COMPONENTS w) t)
+    → (n t : ℕ) → n < length (rows ++ v ∷ []) → t < COMPONENTS → price (rows ++ v ∷ []) n t ≡ as_read aim (row COMPONENTS (worth_price (lex_ops COMPONENTS) worths n)) t
 rows_more aim rows worths v w m e so_far here numbers n t h low =
     let len = length_push rows v in
     elim (cases_lt n (length rows)) [
@@ -37,24 +37,24 @@ rows_more aim rows worths v w m e so_far here numbers n t h low =
       | inr k ↦
           let last : n ≡ m = omega (arith, e, len, h) in
           let read : get_or (rows ++ v ∷ []) n [] ≡ v = get_or_push rows v [] n (omega (arith, e, last)) in
-          let is : get_or worths n (lex_ops PLACES).zero ≡ w = ap (λ (j : ℕ). get_or worths j (lex_ops PLACES).zero) last ∙ here in
-          ap (λ (r : List ℤ). at r t) read ∙ numbers t low ∙ ap (λ (x : Places PLACES). as_read aim (row PLACES x) t) (sym is)
+          let is : get_or worths n (lex_ops COMPONENTS).zero ≡ w = ap (λ (j : ℕ). get_or worths j (lex_ops COMPONENTS).zero) last ∙ here in
+          ap (λ (r : List ℤ). at r t) read ∙ numbers t low ∙ ap (λ (x : Places COMPONENTS). as_read aim (row COMPONENTS x) t) (sym is)
     ]
 
 -- all rows
-pub all_rows : (aim : Aim) (rows : List (List ℤ)) (worths : List (Places PLACES)) → length rows ≡ length worths
-    → ((n t : ℕ) → n < length rows → t < PLACES → price rows n t ≡ as_read aim (row PLACES (worth_price (lex_ops PLACES) worths n)) t)
+pub all_rows : (aim : Aim) (rows : List (List ℤ)) (worths : List (Places COMPONENTS)) → length rows ≡ length worths
+    → ((n t : ℕ) → n < length rows → t < COMPONENTS → price rows n t ≡ as_read aim (row COMPONENTS (worth_price (lex_ops COMPONENTS) worths n)) t)
     → AreNumbersOf aim rows worths
 all_rows aim rows worths e same = record { each = e; same = λ n t low. each n t low }
   where
-    each : (n t : ℕ) → t < PLACES → price rows n t ≡ as_read aim (row PLACES (worth_price (lex_ops PLACES) worths n)) t
+    each : (n t : ℕ) → t < COMPONENTS → price rows n t ≡ as_read aim (row COMPONENTS (worth_price (lex_ops COMPONENTS) worths n)) t
     each n t low =
         elim (cases_lt n (length rows)) [
           | inl k ↦ same n t k low
           | inr k ↦
               let none : get_or rows n [] ≡ [] = get_or_past rows n [] k in
-              let nothing : get_or worths n (lex_ops PLACES).zero ≡ (lex_ops PLACES).zero = get_or_past worths n (lex_ops PLACES).zero (omega (arith, e)) in
-              ap (λ (r : List ℤ). at r t) none ∙ sym (zero_read aim t) ∙ ap (λ (x : Places PLACES). as_read aim (row PLACES x) t) (sym nothing)
+              let nothing : get_or worths n (lex_ops COMPONENTS).zero ≡ (lex_ops COMPONENTS).zero = get_or_past worths n (lex_ops COMPONENTS).zero (omega (arith, e)) in
+              ap (λ (r : List ℤ). at r t) none ∙ sym (zero_read aim t) ∙ ap (λ (x : Places COMPONENTS). as_read aim (row COMPONENTS x) t) (sym nothing)
         ]
 
 -- one or nothing is small
@@ -74,6 +74,6 @@ read_small Greedy r (suc k) = weight_small r (suc k)
 read_small Generous r (suc k) = let s = weight_small r (suc (RANKS - suc k)) in omega (arith, ints, s)
 
 -- the worth of a pair is small
-pub worth_small : IsLexicographic PLACES → (aim : Aim) (r : ℕ) → (lex_ops PLACES).span (worth_of aim r) ≤ 1
+pub worth_small : IsLexicographic COMPONENTS → (aim : Aim) (r : ℕ) → (lex_ops COMPONENTS).span (worth_of aim r) ≤ 1
 worth_small law aim r =
-    law.least_span (worth_of aim r) 1 (λ t h. subst (λ (x : ℤ). unsigned_abs x ≤ 1) (sym (row-places_of PLACES (as_read aim (λ t. pos (weight r t))) t h)) (read_small aim r t))
+    law.least_span (worth_of aim r) 1 (λ t h. subst (λ (x : ℤ). unsigned_abs x ≤ 1) (sym (row-places_of COMPONENTS (as_read aim (λ t. pos (weight r t))) t h)) (read_small aim r t))

@@ -4,7 +4,7 @@ use Rattle.std.specs.Prelude.{neg_ℤ}
 use Rattle.std.proofs.lemmas.List.{length-replicate, get_or-replicate}
 use Rattle.std.proofs.lemmas.Bool.{eq-eqb, ne_eqb, cases_eq}
 use Rattle.spa.specs.declared.aim.Aim.TheVariants.{Greedy, Generous}
-use Rattle.spa.specs.declared.TheConstants.{RANKS, PLACES}
+use Rattle.spa.specs.declared.TheConstants.{RANKS, COMPONENTS}
 use Rattle.spa.specs.Matching.{weight}
 use Rattle.spa.specs.Order.{as_read}
 use Rattle.spa.specs.Row.{at}
@@ -28,6 +28,6 @@ less_at r k h l low =
     ]
 
 -- and a one for the size before it
-pub generous_row : (r t : ℕ) → 1 ≤ r → r ≤ RANKS → t < PLACES → at (set (pos 1 ∷ replicate RANKS (pos 0)) (PLACES - r) (neg_ℤ (pos 1))) t ≡ as_read Generous (λ t. pos (weight r t)) t
-generous_row r zero h l low = let e : PLACES - r ≡ suc (RANKS - r) = omega arith in rw e refl
-generous_row r (suc k) h l low = let e : PLACES - r ≡ suc (RANKS - r) = omega arith in rw e (less_at r k h l (omega arith))
+pub generous_row : (r t : ℕ) → 1 ≤ r → r ≤ RANKS → t < COMPONENTS → at (set (pos 1 ∷ replicate RANKS (pos 0)) (COMPONENTS - r) (neg_ℤ (pos 1))) t ≡ as_read Generous (λ t. pos (weight r t)) t
+generous_row r zero h l low = let e : COMPONENTS - r ≡ suc (RANKS - r) = omega arith in rw e refl
+generous_row r (suc k) h l low = let e : COMPONENTS - r ≡ suc (RANKS - r) = omega arith in rw e (less_at r k h l (omega arith))

@@ -2,7 +2,7 @@
 #![tactic(auto)]
 
 ghost use Rattle.std.specs.Prelude.{◌≡◌, ◌≢◌, ℕ, ◌<◌, ◌≤◌, List, length, slice_index, All, AllPairs, IfOk, OnErr};
-ghost use Rattle.spa.specs.declared.TheConstants.{MOST_SUPERVISORS, MOST_PROJECTS, MOST_STUDENTS, MOST_PLACES, RANKS};
+ghost use Rattle.spa.specs.declared.TheConstants.{MAX_SUPERVISORS, MAX_PROJECTS, MAX_STUDENTS, MAX_QUOTA, RANKS};
 ghost use Rattle.spa.specs.declared.aim.Aim.{Aim};
 ghost use Rattle.spa.specs.Shape.{IsSound};
 ghost use Rattle.spa.specs.Matching.{Pair, IsBest, profile};
@@ -95,11 +95,11 @@ impl Session {
         projects: &[(usize, u32)],
         aim: Aim,
     ) -> Result<Session, AllocError>
-        requires few_supervisors { length supervisors.now ≤ MOST_SUPERVISORS }
-        requires few_projects { length projects.now ≤ MOST_PROJECTS }
+        requires few_supervisors { length supervisors.now ≤ MAX_SUPERVISORS }
+        requires few_projects { length projects.now ≤ MAX_PROJECTS }
         requires offered { All (λ p. p.0 < length supervisors.now) projects.now }
-        requires supervisor_quotas { All (λ q. q ≤ MOST_PLACES) supervisors.now }
-        requires project_quotas { All (λ p. p.1 ≤ MOST_PLACES) projects.now }
+        requires supervisor_quotas { All (λ q. q ≤ MAX_QUOTA) supervisors.now }
+        requires project_quotas { All (λ p. p.1 ≤ MAX_QUOTA) projects.now }
         ensures aim { IfOk result (λ s. s.aim ≡ aim) }
         ensures shape { IfOk result (λ s. s.shape ≡ nobody supervisors.now projects.now) }
         ensures steps { IfOk result (λ s. s.steps ≡ 0) }
@@ -117,7 +117,7 @@ impl Session {
     /// Admits one more student, with a list of projects by position, first choice first. After an `Err`, which is out of memory, nobody was
     /// admitted and nothing has changed.
     pub fn admit(&mut self, list: &[usize]) -> Result<Admitted, AllocError>
-        requires few { length self.old.shape.students < MOST_STUDENTS }
+        requires few { length self.old.shape.students < MAX_STUDENTS }
         requires some { 1 ≤ length list.now }
         requires short { length list.now ≤ RANKS }
         requires known { All (λ p. p < length self.old.shape.projects) list.now }
@@ -143,7 +143,7 @@ impl Session {
     /// Returns how many pairs a best matching of the students admitted so far has. Allocates nothing.
     pub fn size(&self) -> u32
         ensures size { (M : List Pair) → IsBest self.now.aim self.now.shape M → result ≡ length M }
-        ensures few { result ≤ MOST_STUDENTS }
+        ensures few { result ≤ MAX_STUDENTS }
     {
         best(&self.network);
         placed(&self.network, self.students)
@@ -152,7 +152,7 @@ impl Session {
     /// Returns how many pairs of it have rank 1 and so on. Allocates nothing.
     pub fn profile(&self) -> [u32; RANKS]
         ensures profile { (M : List Pair) → IsBest self.now.aim self.now.shape M → (k : ℕ) → k < RANKS → slice_index result k ≡ profile self.now.shape M k }
-        ensures few { (k : ℕ) → k < RANKS → slice_index result k ≤ MOST_STUDENTS }
+        ensures few { (k : ℕ) → k < RANKS → slice_index result k ≤ MAX_STUDENTS }
         ensures whole { length result ≡ RANKS }
     {
         best(&self.network);

@@ -5,7 +5,7 @@ ghost use Rattle.std.specs.Prelude.{◌≡◌, ℕ, ◌<◌, ◌≤◌, length, 
 ghost use Rattle.spa.specs.Order.{order};
 ghost use Rattle.spa.specs.Matching.{IsBest};
 ghost use Rattle.spa.specs.Matched.{pairs};
-ghost use Rattle.spa.specs.declared.TheConstants.{PLACES};
+ghost use Rattle.spa.specs.declared.TheConstants.{COMPONENTS};
 ghost use Rattle.spa.specs.Places.{lex_ops};
 ghost use Rattle.network.specs.declared.TheConstants.{LARGEST_PRICE};
 ghost use Rattle.network.specs.Seen.{price};
@@ -15,7 +15,7 @@ ghost use Rattle.solver.specs.Inside.Solved.{IsOf, AreNumbersOf, ArePricesOf};
 use crate::worths::{admit_weighed, numbers};
 use network::Network;
 use search::search;
-use spa::{Aim, Instance, Lex, Matching, PLACES, RANKS, lex_law, order_law};
+use spa::{Aim, COMPONENTS, Instance, Lex, Matching, RANKS, lex_law, order_law};
 use std::alloc::{AllocError, Global};
 use verdict::{Prices, Proved as Solved, verdict_law};
 
@@ -62,8 +62,8 @@ fn matching_of(
 }
 
 /// Returns the numbers of worths, as the aim reads them.
-fn rows(alloc: Global, aim: Aim, worths: &[Lex]) -> Result<Vec<[i64; PLACES]>, AllocError>
-    requires { (n : ℕ) → (lex_ops PLACES).span (price (lex_ops PLACES) worths.now n) ≤ LARGEST_PRICE }
+fn rows(alloc: Global, aim: Aim, worths: &[Lex]) -> Result<Vec<[i64; COMPONENTS]>, AllocError>
+    requires { (n : ℕ) → (lex_ops COMPONENTS).span (price (lex_ops COMPONENTS) worths.now n) ≤ LARGEST_PRICE }
     ensures { IfOk result (λ v. AreNumbersOf aim v.items worths.now) }
 {
     let mut rows = Vec::with_capacity(alloc, worths.len())?;

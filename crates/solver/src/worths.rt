@@ -7,12 +7,12 @@ ghost use Rattle.spa.specs.declared.aim.Aim.TheVariants.{Generous};
 ghost use Rattle.spa.specs.Order.{as_read};
 ghost use Rattle.spa.specs.Row.{at};
 ghost use Rattle.spa.specs.Places.{lex_ops, row};
-ghost use Rattle.spa.specs.declared.TheConstants.{MOST_STUDENTS, RANKS, PLACES};
+ghost use Rattle.spa.specs.declared.TheConstants.{MAX_STUDENTS, RANKS, COMPONENTS};
 ghost use Rattle.network.specs.Seen.{IsAdmission};
 ghost use Rattle.solver.specs.Inside.Weights.{worth_of, weighed};
 
 use network::{Admitted, Network};
-use spa::{Aim, Lex, PLACES, lex_law};
+use spa::{Aim, COMPONENTS, Lex, lex_law};
 use std::alloc::{AllocError, Global};
 
 /// Returns the worth of a pair of this rank, which is its weight as the aim reads it: one for the size, and for the rank one more
@@ -22,11 +22,11 @@ pub(crate) fn worth_of(aim: Aim, rank: usize) -> Lex
     requires last { rank ≤ RANKS }
     ensures { result ≡ worth_of aim rank }
 {
-    let mut row = [0; PLACES];
+    let mut row = [0; COMPONENTS];
     row[0] = 1;
     match aim {
         Aim::Greedy => row[rank] = 1,
-        Aim::Generous => row[PLACES - rank] = -1,
+        Aim::Generous => row[COMPONENTS - rank] = -1,
     }
     Lex(row)
 }
@@ -51,10 +51,10 @@ pub(crate) fn admit_weighed(
     entries: &mut Vec<(usize, Lex)>,
     list: &[usize],
 ) -> Result<Admitted, AllocError>
-    requires few { length network.old.lists < MOST_STUDENTS }
+    requires few { length network.old.lists < MAX_STUDENTS }
     requires short { length list.now ≤ RANKS }
     requires known { All (λ p. p < length network.old.projects) list.now }
-    ensures admitted { IfOk result (λ a. IsAdmission (lex_ops PLACES) network.old network.new (weighed aim list.now) a.placed a.relaxations) }
+    ensures admitted { IfOk result (λ a. IsAdmission (lex_ops COMPONENTS) network.old network.new (weighed aim list.now) a.placed a.relaxations) }
     ensures memory { OnErr result (network.new ≡ network.old) }
 {
     lex_law();
@@ -63,9 +63,9 @@ pub(crate) fn admit_weighed(
 }
 
 /// Returns the numbers of a worth, as the aim reads them: so they stand at their places again.
-pub(crate) fn numbers(aim: Aim, worth: &Lex) -> [i64; PLACES]
-    requires { (lex_ops PLACES).span worth.now < 2 ^ 62 }
-    ensures { (t : ℕ) → t < PLACES → at result t ≡ as_read aim (row PLACES worth.now) t }
+pub(crate) fn numbers(aim: Aim, worth: &Lex) -> [i64; COMPONENTS]
+    requires { (lex_ops COMPONENTS).span worth.now < 2 ^ 62 }
+    ensures { (t : ℕ) → t < COMPONENTS → at result t ≡ as_read aim (row COMPONENTS worth.now) t }
 {
     match aim {
         Aim::Greedy => worth.0,
@@ -74,15 +74,15 @@ pub(crate) fn numbers(aim: Aim, worth: &Lex) -> [i64; PLACES]
 }
 
 /// Returns the numbers of a worth, as a generous aim reads them.
-fn turned(worth: &Lex) -> [i64; PLACES]
-    requires { (lex_ops PLACES).span worth.now < 2 ^ 62 }
-    ensures { (t : ℕ) → t < PLACES → at result t ≡ as_read Generous (row PLACES worth.now) t }
+fn turned(worth: &Lex) -> [i64; COMPONENTS]
+    requires { (lex_ops COMPONENTS).span worth.now < 2 ^ 62 }
+    ensures { (t : ℕ) → t < COMPONENTS → at result t ≡ as_read Generous (row COMPONENTS worth.now) t }
 {
     lex_law();
-    let mut numbers = [0; PLACES];
+    let mut numbers = [0; COMPONENTS];
     numbers[0] = worth.0[0];
-    for k in 1..PLACES {
-        numbers[k] = -worth.0[PLACES - k];
+    for k in 1..COMPONENTS {
+        numbers[k] = -worth.0[COMPONENTS - k];
     }
     numbers
 }

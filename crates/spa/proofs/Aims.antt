@@ -3,7 +3,7 @@ use Rattle.std.proofs.Common.{◌≡◌, ℕ, zero, suc, ◌-◌, ◌<◌, inl, 
 use Rattle.std.proofs.Math.IntN.{neg_ℤ-+ℤ}
 use Rattle.std.proofs.lemmas.Int.{ints}
 use Rattle.std.proofs.lemmas.Bool.{cases_lt}
-use Rattle.spa.specs.declared.TheConstants.{RANKS, PLACES}
+use Rattle.spa.specs.declared.TheConstants.{RANKS, COMPONENTS}
 use Rattle.spa.specs.declared.aim.Aim.{Aim}
 use Rattle.spa.specs.declared.aim.Aim.TheVariants.{Greedy, Generous}
 use Rattle.spa.specs.Order.{as_read, ranks_read, order, plus}
@@ -32,13 +32,13 @@ pub aim_sums : (aim : Aim) → IsSumOrder (order aim)
 aim_sums aim =
     let r : (ℕ → ℤ) → ℕ → ℤ = as_read aim in
     record {
-      same = λ v w x y e f h. not_before PLACES (r w) (r y) (RowAtMost_same PLACES (r v) (r w) (r x) (r y) (read_alike aim v w e) (read_alike aim x y f) (at_most_from PLACES (r v) (r x) h));
-      refl = λ v. not_before PLACES (r v) (r v) (RowAtMost_refl PLACES (r v));
-      trans = λ u v w h k. not_before PLACES (r u) (r w) (RowAtMost_trans PLACES (r u) (r v) (r w) (at_most_from PLACES (r u) (r v) h) (at_most_from PLACES (r v) (r w) k));
+      same = λ v w x y e f h. not_before COMPONENTS (r w) (r y) (RowAtMost_same COMPONENTS (r v) (r w) (r x) (r y) (read_alike aim v w e) (read_alike aim x y f) (at_most_from COMPONENTS (r v) (r x) h));
+      refl = λ v. not_before COMPONENTS (r v) (r v) (RowAtMost_refl COMPONENTS (r v));
+      trans = λ u v w h k. not_before COMPONENTS (r u) (r w) (RowAtMost_trans COMPONENTS (r u) (r v) (r w) (at_most_from COMPONENTS (r u) (r v) h) (at_most_from COMPONENTS (r v) (r w) k));
       plus = λ u v w x h k.
-          not_before PLACES (r (plus u w)) (r (plus v x))
-          (RowAtMost_same PLACES (plus (r u) (r w)) (r (plus u w)) (plus (r v) (r x)) (r (plus v x)) (λ t _. sym (read_sum aim u w t)) (λ t _. sym (read_sum aim v x t))
-          (RowAtMost-plus PLACES (r u) (r v) (r w) (r x) (at_most_from PLACES (r u) (r v) h) (at_most_from PLACES (r w) (r x) k)));
+          not_before COMPONENTS (r (plus u w)) (r (plus v x))
+          (RowAtMost_same COMPONENTS (plus (r u) (r w)) (r (plus u w)) (plus (r v) (r x)) (r (plus v x)) (λ t _. sym (read_sum aim u w t)) (λ t _. sym (read_sum aim v x t))
+          (RowAtMost-plus COMPONENTS (r u) (r v) (r w) (r x) (at_most_from COMPONENTS (r u) (r v) h) (at_most_from COMPONENTS (r w) (r x) k)));
     }
 
 -- the first place of a row that is at most another
@@ -59,8 +59,8 @@ best_from_unbeaten aim i M b =
     let p : List Pair → ℕ → ℤ = λ N. ranks_read aim (λ k. pos (profile i N k)) in
     record {
       matching = b.matching;
-      largest = λ N n. let s = first_place RANKS (r N) (r M) (at_most_from PLACES (r N) (r M) (b.unbeaten N n)) in omega (arith, ints, s);
-      first = λ N n same. not_before RANKS (p N) (p M) (other_places RANKS (r N) (r M) (at_most_from PLACES (r N) (r M) (b.unbeaten N n)) (ap pos same));
+      largest = λ N n. let s = first_place RANKS (r N) (r M) (at_most_from COMPONENTS (r N) (r M) (b.unbeaten N n)) in omega (arith, ints, s);
+      first = λ N n same. not_before RANKS (p N) (p M) (other_places RANKS (r N) (r M) (at_most_from COMPONENTS (r N) (r M) (b.unbeaten N n)) (ap pos same));
     }
 
 -- The question of docs/PROOF.md. And only such a matching is: a total weight that comes after has a larger first place, so a larger size,
@@ -72,7 +72,7 @@ unbeaten_from_best aim i M g =
     record {
       matching = g.matching;
       unbeaten = λ N n.
-          not_before PLACES (r N) (r M) (elim (cases_lt (length N) (length M)) [
+          not_before COMPONENTS (r N) (r M) (elim (cases_lt (length N) (length M)) [
             | inl h ↦ inl (omega (arith, ints))
             | inr h ↦
                 let most = g.largest N n in

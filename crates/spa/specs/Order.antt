@@ -1,6 +1,6 @@
 -- Rows of numbers by place, and which of two comes first.
 use Rattle.std.specs.Prelude.{◌≡◌, ℕ, zero, suc, ◌-◌, ◌<◌, ℤ, pos, neg_ℤ, ◌+ℤ◌, ◌<ℤ◌}
-use Rattle.spa.specs.declared.TheConstants.{PLACES, RANKS}
+use Rattle.spa.specs.declared.TheConstants.{COMPONENTS, RANKS}
 use Rattle.spa.specs.declared.aim.Aim.{Aim}
 use Rattle.spa.specs.declared.aim.Aim.TheVariants.{Greedy, Generous}
 
@@ -28,11 +28,11 @@ as_read aim v (suc k) = ranks_read aim (λ j. v (suc j)) k
 
 -- which of two rows comes first by an aim
 abbrev pub order : Aim → RowOrder
-order aim v w = Precedes PLACES (as_read aim v) (as_read aim w)
+order aim v w = Precedes COMPONENTS (as_read aim v) (as_read aim w)
 
 -- the first places alone decide an order, and not to come before goes on
 pub record IsSettled (by : RowOrder) : Type 0 where
-  pub same : (v w x y : ℕ → ℤ) → ((t : ℕ) → t < PLACES → v t ≡ w t) → ((t : ℕ) → t < PLACES → x t ≡ y t) → ¬ by x v → ¬ by y w
+  pub same : (v w x y : ℕ → ℤ) → ((t : ℕ) → t < COMPONENTS → v t ≡ w t) → ((t : ℕ) → t < COMPONENTS → x t ≡ y t) → ¬ by x v → ¬ by y w
   pub goes_on : (u v w : ℕ → ℤ) → ¬ by v u → ¬ by w v → ¬ by w u
 
 -- by place: nothing

@@ -2,30 +2,30 @@
 #![tactic(auto)]
 
 ghost use Rattle.std.specs.Prelude.{◌≡◌, ℕ, ◌+◌, ◌<◌, ◌^◌, slice_index};
-ghost use Rattle.spa.specs.declared.TheConstants.{MOST_PROJECTS, MOST_SUPERVISORS};
+ghost use Rattle.spa.specs.declared.TheConstants.{MAX_PROJECTS, MAX_SUPERVISORS};
 ghost use Rattle.spa.specs.Counted.{CountsPair};
 
-use crate::{MOST_PROJECTS, MOST_SUPERVISORS};
+use crate::{MAX_PROJECTS, MAX_SUPERVISORS};
 use std::marker::Model;
 
 /// How many pairs have each project and how many each supervisor, by position. A pair is counted at once for both, and
 /// counting allocates nothing.
 #[derive(Drop)]
 pub struct Counts {
-    projects: [u32; MOST_PROJECTS],
-    supervisors: [u32; MOST_SUPERVISORS],
+    projects: [u32; MAX_PROJECTS],
+    supervisors: [u32; MAX_SUPERVISORS],
 }
 
 impl Model for Counts {
     ghost use Rattle.std.specs.Prelude.{◌≡◌, length};
-    ghost use Rattle.spa.specs.declared.TheConstants.{MOST_PROJECTS, MOST_SUPERVISORS};
+    ghost use Rattle.spa.specs.declared.TheConstants.{MAX_PROJECTS, MAX_SUPERVISORS};
     ghost use Rattle.spa.specs.Counted.{Counted};
 
     ghost Value = { Counted };
 
     ghost view = { λ c. record { projects = c.projects; supervisors = c.supervisors } };
 
-    ghost invariant = { λ c. (length c.projects ≡ MOST_PROJECTS) × (length c.supervisors ≡ MOST_SUPERVISORS) };
+    ghost invariant = { λ c. (length c.projects ≡ MAX_PROJECTS) × (length c.supervisors ≡ MAX_SUPERVISORS) };
 }
 
 impl Counts {
@@ -35,15 +35,15 @@ impl Counts {
         ensures supervisors { (l : ℕ) → slice_index result.supervisors l ≡ 0 }
     {
         Counts {
-            projects: [0; MOST_PROJECTS],
-            supervisors: [0; MOST_SUPERVISORS],
+            projects: [0; MAX_PROJECTS],
+            supervisors: [0; MAX_SUPERVISORS],
         }
     }
 
     /// Counts one more pair, of a project of this supervisor.
     pub fn add(&mut self, project: usize, supervisor: usize)
-        requires project { project < MOST_PROJECTS }
-        requires supervisor { supervisor < MOST_SUPERVISORS }
+        requires project { project < MAX_PROJECTS }
+        requires supervisor { supervisor < MAX_SUPERVISORS }
         requires in_project { slice_index self.old.projects project + 1 < 2 ^ 32 }
         requires with_supervisor { slice_index self.old.supervisors supervisor + 1 < 2 ^ 32 }
         ensures { CountsPair self.old self.new project supervisor }
@@ -54,7 +54,7 @@ impl Counts {
 
     /// Returns how many pairs have the project at this position.
     pub fn in_project(&self, position: usize) -> u32
-        requires { position < MOST_PROJECTS }
+        requires { position < MAX_PROJECTS }
         ensures { result ≡ slice_index self.now.projects position }
     {
         self.projects[position]
@@ -62,7 +62,7 @@ impl Counts {
 
     /// Returns how many pairs have a project of the supervisor at this position.
     pub fn with_supervisor(&self, position: usize) -> u32
-        requires { position < MOST_SUPERVISORS }
+        requires { position < MAX_SUPERVISORS }
         ensures { result ≡ slice_index self.now.supervisors position }
     {
         self.supervisors[position]

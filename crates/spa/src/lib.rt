@@ -51,25 +51,25 @@ pub use text::{TextFault, is_code_text, is_label_text};
 pub use worth::Worth;
 
 /// The most supervisors of an instance.
-pub const MOST_SUPERVISORS: usize = 100;
+pub const MAX_SUPERVISORS: usize = 100;
 
 /// The most projects of an instance.
-pub const MOST_PROJECTS: usize = 400;
+pub const MAX_PROJECTS: usize = 400;
 
 /// The most students of an instance.
-pub const MOST_STUDENTS: usize = 500;
+pub const MAX_STUDENTS: usize = 500;
 
 /// The greatest quota of a supervisor or a project.
-pub const MOST_PLACES: u32 = 500;
+pub const MAX_QUOTA: u32 = 500;
 
 /// The most bytes of a code.
-pub const MOST_CODE_BYTES: usize = 16;
+pub const MAX_CODE_BYTES: usize = 16;
 
 /// The most bytes of a label.
-pub const MOST_LABEL_BYTES: usize = 200;
+pub const MAX_LABEL_BYTES: usize = 200;
 
 /// The longest list, and so the ranks that a pair can have.
 pub const RANKS: usize = 12;
 
 /// The places of a worth: the size, and one for each rank.
-pub const PLACES: usize = RANKS + 1;
+pub const COMPONENTS: usize = RANKS + 1;

@@ -6,8 +6,8 @@ use Rattle.std.specs.Option.{option_map_or}
 use Rattle.std.specs.List.{AllByRecursion}
 use Rattle.std.specs.Str.{bytes_eq}
 use Rattle.std.proofs.lemmas.Slice.Eq.{bytes_eq-Decides}
-use Rattle.spa.specs.declared.TheConstants.{MOST_SUPERVISORS, MOST_PROJECTS, MOST_STUDENTS}
-use Rattle.rolls.specs.declared.TheConstants.{MOST_IMPORTS, MOST_ROUNDS}
+use Rattle.spa.specs.declared.TheConstants.{MAX_SUPERVISORS, MAX_PROJECTS, MAX_STUDENTS}
+use Rattle.rolls.specs.declared.TheConstants.{MAX_IMPORTS, MAX_ROUNDS}
 use Rattle.rolls.specs.declared.entries.Supervisor.{Supervisor}
 use Rattle.rolls.specs.declared.entries.Project.{Project}
 use Rattle.rolls.specs.declared.entries.Student.{Student}
@@ -55,10 +55,10 @@ project_fits_still o s p h = record {
   quota = h.quota;
 }
 
-pub fit_with_supervisor : (o : State) (s : Supervisor) → IsFit o → SupervisorFits s → placed_with_supervisor o s.code ≤ s.quota → (not (has_supervisor o s.code) && nat_le MOST_SUPERVISORS (length o.supervisors)) ≡ false → IsFit (with_supervisor o s)
+pub fit_with_supervisor : (o : State) (s : Supervisor) → IsFit o → SupervisorFits s → placed_with_supervisor o s.code ≤ s.quota → (not (has_supervisor o s.code) && nat_le MAX_SUPERVISORS (length o.supervisors)) ≡ false → IsFit (with_supervisor o s)
 fit_with_supervisor o s fit fits enough free = record {
-  supervisors = entries_put supervisor_key SupervisorFits MOST_SUPERVISORS s o.supervisors fit.supervisors fits free;
-  projects = entries_weaker project_key (ProjectFits o) (ProjectFits (with_supervisor o s)) MOST_PROJECTS o.projects (project_fits_still o s) fit.projects;
+  supervisors = entries_put supervisor_key SupervisorFits MAX_SUPERVISORS s o.supervisors fit.supervisors fits free;
+  projects = entries_weaker project_key (ProjectFits o) (ProjectFits (with_supervisor o s)) MAX_PROJECTS o.projects (project_fits_still o s) fit.projects;
   students = fit.students;
   numbered = fit.numbered;
   few_rounds = fit.few_rounds;
@@ -122,10 +122,10 @@ list_fits_still o p n l h = record {
   not_placed = h.not_placed;
 }
 
-pub fit_with_project : (o : State) (p : Project) → IsFit o → ProjectFits o p → is_moved o p.code p.supervisor ≡ false → placed_in_project o p.code ≤ p.quota → (not (has_project o p.code) && nat_le MOST_PROJECTS (length o.projects)) ≡ false → IsFit (with_project o p)
+pub fit_with_project : (o : State) (p : Project) → IsFit o → ProjectFits o p → is_moved o p.code p.supervisor ≡ false → placed_in_project o p.code ≤ p.quota → (not (has_project o p.code) && nat_le MAX_PROJECTS (length o.projects)) ≡ false → IsFit (with_project o p)
 fit_with_project o p fit fits moved enough free = record {
   supervisors = fit.supervisors;
-  projects = entries_put project_key (ProjectFits o) MOST_PROJECTS p o.projects fit.projects fits free;
+  projects = entries_put project_key (ProjectFits o) MAX_PROJECTS p o.projects fit.projects fits free;
   students = fit.students;
   numbered = fit.numbered;
   few_rounds = fit.few_rounds;
@@ -157,11 +157,11 @@ known_list_still o s n l h = record {
   not_placed = h.not_placed;
 }
 
-pub fit_with_student : (o : State) (s : Student) → IsFit o → StudentFits s → (not (has_student o s.code) && nat_le MOST_STUDENTS (length o.students)) ≡ false → IsFit (with_student o s)
+pub fit_with_student : (o : State) (s : Student) → IsFit o → StudentFits s → (not (has_student o s.code) && nat_le MAX_STUDENTS (length o.students)) ≡ false → IsFit (with_student o s)
 fit_with_student o s fit fits free = record {
   supervisors = fit.supervisors;
   projects = fit.projects;
-  students = entries_put student_key StudentFits MOST_STUDENTS s o.students fit.students fits free;
+  students = entries_put student_key StudentFits MAX_STUDENTS s o.students fit.students fits free;
   numbered = fit.numbered;
   few_rounds = fit.few_rounds;
   aimed = fit.aimed;
@@ -177,7 +177,7 @@ fit_with_student o s fit fits free = record {
 
 -- ---- an import is stored
 
-pub fit_with_import : (i : Import) (o : State) → IsFit o → ImportFits i → (not (has_import o i.id) && nat_le MOST_IMPORTS (length o.imports)) ≡ false → IsFit (with_import i o)
+pub fit_with_import : (i : Import) (o : State) → IsFit o → ImportFits i → (not (has_import o i.id) && nat_le MAX_IMPORTS (length o.imports)) ≡ false → IsFit (with_import i o)
 fit_with_import i o fit fits free = record {
   supervisors = fit.supervisors;
   projects = fit.projects;
@@ -190,7 +190,7 @@ fit_with_import i o fit fits free = record {
   lists_fit = fit.lists_fit;
   placements_rise = fit.placements_rise;
   placements_fit = fit.placements_fit;
-  imports = entries_put import_key ImportFits MOST_IMPORTS i o.imports fit.imports fits free;
+  imports = entries_put import_key ImportFits MAX_IMPORTS i o.imports fit.imports fits free;
   projects_within = fit.projects_within;
   supervisors_within = fit.supervisors_within;
 }
@@ -200,7 +200,7 @@ fit_with_import i o fit fits free = record {
 -- Other rounds, and no more placements by any count. The new lists and placements are fit.
 pub record IsRoundStep (o : State) (rounds : List Round) (aims : List RoundAim) (placements : List Placement) : Type 0 where
   pub numbered : are_numbered 1 rounds ≡ true
-  pub few_rounds : length rounds ≤ MOST_ROUNDS
+  pub few_rounds : length rounds ≤ MAX_ROUNDS
   pub aimed : are_aimed aims rounds ≡ true
   pub last_open : only_last_open rounds ≡ true
   pub lists_rise : (n : ℕ) → rises list_key (lists_of (record o { rounds = rounds; aims = aims; placements = placements }) n) ≡ true

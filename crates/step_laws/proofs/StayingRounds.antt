@@ -6,7 +6,7 @@ use Rattle.std.specs.Option.{option_map_or}
 use Rattle.std.specs.List.{AllByRecursion}
 use Rattle.std.proofs.lemmas.Bool.{cases_eq, eq-eqb}
 use Rattle.std.proofs.lemmas.Map.Entries.{option_filter}
-use Rattle.rolls.specs.declared.TheConstants.{MOST_ROUNDS}
+use Rattle.rolls.specs.declared.TheConstants.{MAX_ROUNDS}
 use Rattle.spa.specs.declared.aim.Aim.{Aim}
 use Rattle.rolls.specs.declared.rounds.Round.{Round}
 use Rattle.rolls.specs.declared.rounds.Listed.{Listed}
@@ -31,7 +31,7 @@ placement_fits_still o new p h closed lists = record {
 
 -- ---- the next round is opened
 
-pub fit_opened : (aim : Aim) (o : State) → IsFit o → is_open o (last_round o) ≡ false → last_round o < MOST_ROUNDS → IsFit (after_opening aim o)
+pub fit_opened : (aim : Aim) (o : State) → IsFit o → is_open o (last_round o) ≡ false → last_round o < MAX_ROUNDS → IsFit (after_opening aim o)
 fit_opened aim o fit closed room = fit_with_rounds o (after_opening aim o).rounds (after_opening aim o).aims o.placements fit (record {
   numbered = numbered_after_opening aim o fit.numbered;
   few_rounds = omega (arith, last_after_opening aim o fit.numbered, room);

@@ -5,7 +5,7 @@ use Rattle.std.specs.Option.{option_map_or}
 use Rattle.std.specs.Cmp.{first_so, second_so}
 use Rattle.std.proofs.lemmas.Bool.{leb-true, leb-false}
 use Rattle.spa.specs.declared.TheConstants.{RANKS}
-use Rattle.rolls.specs.declared.TheConstants.{MOST_ROUNDS}
+use Rattle.rolls.specs.declared.TheConstants.{MAX_ROUNDS}
 use Rattle.rolls.specs.declared.rounds.Listed.{Listed}
 use Rattle.rolls.specs.declared.rounds.Placement.{Placement}
 use Rattle.rolls.specs.Roll.{put, take_out, same_key}
@@ -46,7 +46,7 @@ student_fit code label o fit none =
 opened_fit : (aim : Aim) (o : State) → IsFit o → plain_refusal o (OpenRound aim) ≡ None → IsFit (after_plain (OpenRound aim) o)
 opened_fit aim o fit none =
     let passed = allowed (opening_tests o) none in
-    fit_opened aim o fit passed.0 (leb-false MOST_ROUNDS (last_round o) passed.1.0)
+    fit_opened aim o fit passed.0 (leb-false MAX_ROUNDS (last_round o) passed.1.0)
 
 -- who is placed nowhere is not placed before a round
 placed_nowhere : (n : ℕ) (x : Option Placement) → is_some x ≡ false → option_map_or (λ p. nat_lt p.round n) x false ≡ false

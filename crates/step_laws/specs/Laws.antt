@@ -1,6 +1,6 @@
 -- What plain requests and imports make of a fit office.
 use Rattle.std.specs.Prelude.{◌≡◌, ◌&&◌, not, nat_le, false, List, length, None}
-use Rattle.rolls.specs.declared.TheConstants.{MOST_IMPORTS}
+use Rattle.rolls.specs.declared.TheConstants.{MAX_IMPORTS}
 use Rattle.rolls.specs.declared.request.Plain.{Plain}
 use Rattle.rolls.specs.declared.import.Import.{Import}
 use Rattle.rolls.specs.State.{State, has_import}
@@ -15,7 +15,7 @@ StaysFit = (q : Plain) (o : State) → IsFit o → plain_refusal o q ≡ None �
 
 -- a fit office that keeps one import more is fit, where the import fits and there is room for it
 abbrev pub KeepingFits : Type 0
-KeepingFits = (i : Import) (o : State) → IsFit o → ImportFits i → (not (has_import o i.id) && nat_le MOST_IMPORTS (length o.imports)) ≡ false → IsFit (with_import i o)
+KeepingFits = (i : Import) (o : State) → IsFit o → ImportFits i → (not (has_import o i.id) && nat_le MAX_IMPORTS (length o.imports)) ≡ false → IsFit (with_import i o)
 
 -- plain requests keep no import
 abbrev pub ImportsStay : Type 0

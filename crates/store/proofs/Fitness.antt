@@ -13,7 +13,7 @@ use Rattle.sqlite_rules.specs.Lists.{Has}
 use Rattle.spa.specs.Text.{is_code}
 use Rattle.spa.specs.declared.TheConstants.{RANKS}
 use Rattle.spa.proofs.Texts.{code_utf8, label_utf8}
-use Rattle.rolls.specs.declared.TheConstants.{MOST_ROUNDS}
+use Rattle.rolls.specs.declared.TheConstants.{MAX_ROUNDS}
 use Rattle.rolls.specs.declared.rounds.Listed.{Listed}
 use Rattle.rolls.specs.declared.rounds.Placement.{Placement as PlacementEntry}
 use Rattle.rolls.specs.declared.rounds.Round.{Round as RoundEntry}
@@ -89,7 +89,7 @@ module _ (o : State) (fit : IsFit o) where
 
   -- a round has a small number, and its lists fit
   record IsKnown (r : RoundEntry) : Type 0 where
-    number : r.number ≤ MOST_ROUNDS
+    number : r.number ≤ MAX_ROUNDS
     lists : AllByRecursion (ListFits o r.number) r.lists
 
   known : (n : ℕ) (r : RoundEntry) → round_of o n ≡ Some r → IsKnown r
@@ -104,7 +104,7 @@ module _ (o : State) (fit : IsFit o) where
   rounds_known : AllByRecursion IsKnown o.rounds
   rounds_known = all_weaker (StandsIn round_key o.rounds) IsKnown (λ r is. known r.number r is) o.rounds (each_found round_key o.rounds (numbered_rise 1 o.rounds fit.numbered))
 
-  aims_small : (aims : List AimEntry) (rs : List RoundEntry) → are_aimed aims rs ≡ true → AllByRecursion IsKnown rs → AllByRecursion (λ a. a.round ≤ MOST_ROUNDS) aims
+  aims_small : (aims : List AimEntry) (rs : List RoundEntry) → are_aimed aims rs ≡ true → AllByRecursion IsKnown rs → AllByRecursion (λ a. a.round ≤ MAX_ROUNDS) aims
   aims_small [] rs h all = tt
   aims_small (a ∷ aims) (r ∷ rs) h all =
       let same = eqb-true a.round r.number (first_so (a.round == r.number) (are_aimed aims rs) h) in
@@ -112,13 +112,13 @@ module _ (o : State) (fit : IsFit o) where
   aims_small (a ∷ aims) [] h all = absurd (cc)
 
   -- the rows of a list
-  choices_typed : (round : ℕ) (student : List ℕ) (place : ℕ) (cs : List (List ℕ)) → round ≤ MOST_ROUNDS → is_code student ≡ true → place + length cs ≤ RANKS + 1 → AllByRecursion (λ c. IsTrue (has_project o c)) cs
+  choices_typed : (round : ℕ) (student : List ℕ) (place : ℕ) (cs : List (List ℕ)) → round ≤ MAX_ROUNDS → is_code student ≡ true → place + length cs ≤ RANKS + 1 → AllByRecursion (λ c. IsTrue (has_project o c)) cs
       → AllByRecursion (IsTypedRow Choice) (choice_rows round student place cs)
   choices_typed round student place [] n s few all = tt
   choices_typed round student place (c ∷ cs) n s few all =
       ((refl, (omega (arith, n), (code_utf8 student s, (omega (arith, few), (code_utf8 c (project_is_code c all.0), tt))))), choices_typed round student (suc place) cs n s (omega (arith, few)) all.1)
 
-  list_typed : (n : ℕ) (l : Listed) → n ≤ MOST_ROUNDS → ListFits o n l → AllByRecursion (IsTypedRow Choice) (list_rows n l)
+  list_typed : (n : ℕ) (l : Listed) → n ≤ MAX_ROUNDS → ListFits o n l → AllByRecursion (IsTypedRow Choice) (list_rows n l)
   list_typed n l small fits = choices_typed n l.student 1 l.choices small (student_is_code l.student fits.student) (let few = fits.choices.few in omega (arith, few)) fits.projects
 
   round_typed : (r : RoundEntry) → IsKnown r → AllByRecursion (IsTypedRow Choice) (rows_of_round r)
@@ -126,7 +126,7 @@ module _ (o : State) (fit : IsFit o) where
 
   -- what a student chooses in a round stands in a list of it
   record IsChosen (n : ℕ) (student : List ℕ) (i : ℕ) (project : List ℕ) : Type 0 where
-    number : n ≤ MOST_ROUNDS
+    number : n ≤ MAX_ROUNDS
     student_code : is_code student ≡ true
     low : i < RANKS
     project_code : is_code project ≡ true
@@ -160,7 +160,7 @@ module _ (o : State) (fit : IsFit o) where
       (λ p fits. (refl, (code_utf8 p.code fits.code, (label_utf8 p.label fits.label, (code_utf8 p.supervisor (supervisor_is_code p.supervisor fits.supervisor), (omega (arith, fits.quota), tt)))))) o.projects fit.projects.each
   latest_rows Student = all_made StudentFits (IsTypedRow Student) student_cells (λ s fits. (refl, (code_utf8 s.code fits.code, (label_utf8 s.label fits.label, tt)))) o.students fit.students.each
   latest_rows Round = all_made IsKnown (IsTypedRow Round) round_cells (λ r is. (refl, (omega (arith, is.number), (flag_small r.is_open, tt)))) o.rounds rounds_known
-  latest_rows RoundAim = all_made (λ a. a.round ≤ MOST_ROUNDS) (IsTypedRow RoundAim) aim_cells (λ a small. (refl, (omega (arith, small), (flag_small (is_generous a.aim), tt)))) o.aims (aims_small o.aims o.rounds fit.aimed rounds_known)
+  latest_rows RoundAim = all_made (λ a. a.round ≤ MAX_ROUNDS) (IsTypedRow RoundAim) aim_cells (λ a small. (refl, (omega (arith, small), (flag_small (is_generous a.aim), tt)))) o.aims (aims_small o.aims o.rounds fit.aimed rounds_known)
   latest_rows Choice = all-flat_map (IsTypedRow Choice) rows_of_round o.rounds (all_weaker IsKnown _ round_typed o.rounds rounds_known)
   latest_rows Placement = all_made (PlacementFits o) (IsTypedRow Placement) placement_cells placement_typed o.placements fit.placements_fit
   latest_rows Import = all_made ImportFits (IsTypedRow Import) import_cells (λ i fits. (refl, (code_utf8 i.id fits.id, (word_utf8 i.kind, (tt, (omega (arith, fits.rows), tt)))))) o.imports fit.imports.each

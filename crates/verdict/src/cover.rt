@@ -11,33 +11,33 @@ ghost use Rattle.verdict.specs.Verdict.{HasShape, IsUncoveredAt, IsFirstUncovere
 ghost use Rattle.verdict.specs.Inside.Cover.{IsListCovered, IsFirstPlace};
 
 use crate::prices::Prices;
-use spa::{Aim, Instance, PLACES, list_law, precedes};
+use spa::{Aim, COMPONENTS, Instance, list_law, precedes};
 
 /// Returns what three prices come to together.
 fn paid(
-    student: &[i64; PLACES],
-    project: &[i64; PLACES],
-    supervisor: &[i64; PLACES],
-) -> [i64; PLACES]
+    student: &[i64; COMPONENTS],
+    project: &[i64; COMPONENTS],
+    supervisor: &[i64; COMPONENTS],
+) -> [i64; COMPONENTS]
     requires student { EachInRange student.now }
     requires project { EachInRange project.now }
     requires supervisor { EachInRange supervisor.now }
     ensures { at result ≡ plus (at student.now) (plus (at project.now) (at supervisor.now)) }
 {
-    let mut paid = [0; PLACES];
-    for t in 0..PLACES {
+    let mut paid = [0; COMPONENTS];
+    for t in 0..COMPONENTS {
         paid[t] = student[t] + (project[t] + supervisor[t]);
     }
     paid
 }
 
 /// Returns what a pair of this rank weighs.
-fn weight_of(rank: usize) -> [i64; PLACES]
+fn weight_of(rank: usize) -> [i64; COMPONENTS]
     requires first { 1 ≤ rank }
-    requires last { rank < PLACES }
+    requires last { rank < COMPONENTS }
     ensures { at result ≡ (λ t. pos (weight rank t)) }
 {
-    let mut weight = [0; PLACES];
+    let mut weight = [0; COMPONENTS];
     weight[0] = 1;
     weight[rank] = 1;
     weight

@@ -7,7 +7,7 @@ ghost use Rattle.spa.specs.Row.{at};
 ghost use Rattle.verdict.specs.Rows.{EachInRange, AllInRange, AreNotBelowZero};
 ghost use Rattle.verdict.specs.Verdict.{HasShape, IsNotBelowZero};
 
-use spa::{Aim, Instance, PLACES, precedes};
+use spa::{Aim, COMPONENTS, Instance, precedes};
 
 /// The greatest number that a place of a price may have, and the least but for its sign.
 pub const LIMIT: i64 = 1_000_000;
@@ -15,16 +15,16 @@ pub const LIMIT: i64 = 1_000_000;
 /// Prices of the students, projects and supervisors of an instance, in its order.
 #[derive(Drop)]
 pub struct Prices {
-    pub students: Vec<[i64; PLACES]>,
-    pub projects: Vec<[i64; PLACES]>,
-    pub supervisors: Vec<[i64; PLACES]>,
+    pub students: Vec<[i64; COMPONENTS]>,
+    pub projects: Vec<[i64; COMPONENTS]>,
+    pub supervisors: Vec<[i64; COMPONENTS]>,
 }
 
 /// Whether each place of a price is within the limit.
-fn is_in_range(price: &[i64; PLACES]) -> bool
+fn is_in_range(price: &[i64; COMPONENTS]) -> bool
     ensures { IsTrue result ↔ EachInRange price.now }
 {
-    for t in 0..PLACES {
+    for t in 0..COMPONENTS {
         if price[t] < -LIMIT || price[t] > LIMIT {
             return false;
         }
@@ -33,7 +33,7 @@ fn is_in_range(price: &[i64; PLACES]) -> bool
 }
 
 /// Whether each place of each price is within the limit.
-fn are_in_range(prices: &[[i64; PLACES]]) -> bool
+fn are_in_range(prices: &[[i64; COMPONENTS]]) -> bool
     ensures { IsTrue result ↔ AllInRange prices.now }
 {
     for price in prices {
@@ -45,21 +45,21 @@ fn are_in_range(prices: &[[i64; PLACES]]) -> bool
 }
 
 /// Returns the price of nothing: zero.
-fn nothing() -> [i64; PLACES]
+fn nothing() -> [i64; COMPONENTS]
     ensures { at result ≡ none }
 {
-    [0; PLACES]
+    [0; COMPONENTS]
 }
 
 /// Whether a price comes before zero by an aim.
-fn is_below_zero(aim: Aim, price: &[i64; PLACES]) -> bool
+fn is_below_zero(aim: Aim, price: &[i64; COMPONENTS]) -> bool
     ensures { IsTrue result ↔ order aim (at price.now) none }
 {
     precedes(aim, price, &nothing())
 }
 
 /// Whether none of these prices comes before zero by an aim.
-fn are_not_below_zero(aim: Aim, prices: &[[i64; PLACES]]) -> bool
+fn are_not_below_zero(aim: Aim, prices: &[[i64; COMPONENTS]]) -> bool
     ensures { IsTrue result ↔ AreNotBelowZero (order aim) prices.now }
 {
     for price in prices {

@@ -1,7 +1,7 @@
 //! Connections of a listener, served at a desk one after another.
 ghost use Rattle.std.specs.Io.KnownBytes.{Appends};
 ghost use Rattle.std.specs.Prelude.{◌≡◌, ℕ, ◌+◌, ◌≤◌, ◌<◌, ◌-◌, ◌^◌, ◌++◌, length, take, Err, IfOk, IfErr, OnOk, OnErr};
-ghost use Rattle.wire.specs.declared.TheConstants.{MOST_SHORT_BODY};
+ghost use Rattle.wire.specs.declared.TheConstants.{MAX_SHORT_BODY};
 ghost use Rattle.arrayvec.specs.ArrayVec.{array_vec_len};
 ghost use Rattle.web.specs.Connections.{IsStreamed, AllServed, SomeServed, end_word, told_of, connection_line};
 ghost use Rattle.web.specs.Serving.{AnswersFrom, end_text};
@@ -38,7 +38,7 @@ fn end_word(end: End) -> &'static [u8]
 
 /// Appends what is printed of a connection.
 fn push_told(out: &mut ShortText, came: &Result<Served, StreamFault>)
-    requires { array_vec_len out.old ≤ MOST_SHORT_BODY }
+    requires { array_vec_len out.old ≤ MAX_SHORT_BODY }
     ensures items { out.new.items ≡ out.old.items ++ told_of came.now }
     ensures len { array_vec_len out.new ≤ array_vec_len out.old + 30 }
 {

@@ -2,7 +2,7 @@
 use Rattle.std.proofs.Common.{◌≡◌, ℕ, ◌+◌, ◌<◌, List, [], ◌∷◌, ◌++◌, length, drop, Option, refl, sym, ap, ◌∙◌, subst, append_assoc, append-nil, length-append, arith}
 use Rattle.std.specs.List.{concat}
 use Rattle.std.specs.Io.KnownBytes.{Appends}
-use Rattle.wire.specs.declared.TheConstants.{MOST_MESSAGES}
+use Rattle.wire.specs.declared.TheConstants.{MAX_MESSAGES}
 use Rattle.wire.specs.declared.front.Parts.{Parts}
 use Rattle.wire.specs.declared.front.Judgement.TheVariants.{Whole}
 use Rattle.wire.specs.declared.outcome.End.{End}
@@ -97,7 +97,7 @@ answers_on step before now after left0 w0 left w w' rest count p a so judged x w
 }
 
 -- an end that comes before the hundredth message
-ends_at : (count : ℕ) (rest : List ℕ) (end : End) → count < MOST_MESSAGES → Stops rest end → EndsAt count rest end
+ends_at : (count : ℕ) (rest : List ℕ) (end : End) → count < MAX_MESSAGES → Stops rest end → EndsAt count rest end
 ends_at count rest Closed few stops = (few, stops)
 ends_at count rest Unfinished few stops = (few, stops)
 ends_at count rest BadHead few stops = (few, stops)
@@ -106,7 +106,7 @@ ends_at count rest Hundred few stops = absurd stops
 
 -- the stream is at an end, and its last words are written
 pub ends_here : {S : Type 0} (step : S → MessageText → List ℕ → S → Type 0) (refusal : End → List ℕ) (before now : S) (left0 w0 left w w' : Option (List ℕ)) (rest : List ℕ) (count : ℕ) (end : End)
-    → SoFar step before left0 w0 left w rest count now → count < MOST_MESSAGES → Stops (rest ++ unread left) end → Appends w w' (last_words refusal end)
+    → SoFar step before left0 w0 left w rest count now → count < MAX_MESSAGES → Stops (rest ++ unread left) end → Appends w w' (last_words refusal end)
     → ServedTo step refusal before left0 w0 left w' (record { answered = count + last_count end; end = end }) now
 ends_here step refusal before now left0 w0 left w w' rest count end so few stops wrote = record {
   given = so.given;
@@ -129,8 +129,8 @@ ends_here step refusal before now left0 w0 left w w' rest count end so few stops
 
 -- a hundred messages were answered
 pub hundred_here : {S : Type 0} (step : S → MessageText → List ℕ → S → Type 0) (refusal : End → List ℕ) (before now : S) (left0 w0 left w : Option (List ℕ)) (rest : List ℕ)
-    → SoFar step before left0 w0 left w rest MOST_MESSAGES now
-    → ServedTo step refusal before left0 w0 left w (record { answered = MOST_MESSAGES; end = Hundred }) now
+    → SoFar step before left0 w0 left w rest MAX_MESSAGES now
+    → ServedTo step refusal before left0 w0 left w (record { answered = MAX_MESSAGES; end = Hundred }) now
 hundred_here step refusal before now left0 w0 left w rest so = record {
   given = so.given;
   read = so.read;

@@ -2,7 +2,7 @@
 use Rattle.std.proofs.Common.{◌≡◌, ℕ, ◌+◌, ◌<◌, inl, inr, List, [], ◌∷◌, ◌++◌, length, take, drop, Option, Result, Ok, Err, IfOk, OnOk, IfErr, OnErr, refl, sym, ◌∙◌, subst, add-zero, length-append, arith, ap}
 use Rattle.std.specs.List.{concat}
 use Rattle.std.specs.Io.KnownBytes.{Appends}
-use Rattle.wire.specs.declared.TheConstants.{MOST_MESSAGES}
+use Rattle.wire.specs.declared.TheConstants.{MAX_MESSAGES}
 use Rattle.wire.specs.declared.front.Parts.{Parts}
 use Rattle.wire.specs.declared.front.Judgement.TheVariants.{Whole, Open}
 use Rattle.wire.specs.declared.outcome.End.{End}
@@ -108,7 +108,7 @@ nothing_served step refusal before left w = record {
 -- the last words were written, or not all of them
 pub ended : {S : Type 0} (step : S → MessageText → List ℕ → S → Type 0) (refusal : End → List ℕ) (before now was : S) (left0 w0 left l w w1 w' : Option (List ℕ)) (rest r : List ℕ) (count : ℕ) (end : End)
     (result : Result Served StreamFault)
-    → SoFar step before left0 w0 left w rest count was → count < MOST_MESSAGES
+    → SoFar step before left0 w0 left w rest count was → count < MAX_MESSAGES
     → Stops (r ++ unread l) end × GoesOnServing step left w rest was l w1 r now 0
     → IfOk result (λ s. s ≡ record { answered = count + last_count end; end = end }) → OnOk result (Appends w1 w' (last_words refusal end))
     → IfErr result (λ e. e ≡ Write) → OnErr result ((n : ℕ) × (n < length (last_words refusal end)) × Appends w1 w' (take n (last_words refusal end)))

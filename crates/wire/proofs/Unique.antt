@@ -3,7 +3,7 @@ use Rattle.std.proofs.Common.{◌≡◌, ℕ, suc, ◌+◌, ◌<◌, ◌≤◌, 
 use Rattle.std.proofs.lemmas.List.{take_at, drop_at, append_cancel_left}
 use Rattle.httparse.specs.Grammar.{RequestHead, print_request, HasNoRequest}
 use Rattle.httparse.proofs.GrammarLemmas.{request_unique, print_request-append}
-use Rattle.wire.specs.declared.TheConstants.{MOST_MESSAGES}
+use Rattle.wire.specs.declared.TheConstants.{MAX_MESSAGES}
 use Rattle.wire.specs.declared.fields.Framing.{Framing}
 use Rattle.wire.specs.declared.fields.Framing.TheVariants.{Length, Wrong, Long}
 use Rattle.wire.specs.declared.outcome.End.{End}
@@ -162,7 +162,7 @@ stops_unique rest TooLarge Hundred x y = absurd y
 stops_unique rest Hundred e x y = absurd x
 
 -- an end before the hundredth message
-few_ends : (n : ℕ) (rest : List ℕ) (e : End) → EndsAt n rest e → (e ≡ Hundred) × (n ≡ MOST_MESSAGES) ⊎ (n < MOST_MESSAGES) × Stops rest e
+few_ends : (n : ℕ) (rest : List ℕ) (e : End) → EndsAt n rest e → (e ≡ Hundred) × (n ≡ MAX_MESSAGES) ⊎ (n < MAX_MESSAGES) × Stops rest e
 few_ends n rest Hundred x = inl (refl, x)
 few_ends n rest Closed x = inr x
 few_ends n rest Unfinished x = inr x
@@ -177,7 +177,7 @@ ends_unique n rest d e x y = elim (few_ends n rest d x) [
 ]
 
 -- no end comes after more than a hundred messages
-at_most : (n : ℕ) (rest : List ℕ) (e : End) → EndsAt n rest e → n ≤ MOST_MESSAGES
+at_most : (n : ℕ) (rest : List ℕ) (e : End) → EndsAt n rest e → n ≤ MAX_MESSAGES
 at_most n rest e x = elim (few_ends n rest e x) [ inl a ↦ omega (arith, a.1) | inr a ↦ omega (arith, a.0) ]
 
 -- where one list ends the other does not go on

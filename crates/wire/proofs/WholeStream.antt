@@ -7,7 +7,7 @@ use Rattle.httparse.specs.Spans.{span_bytes, IsRequestAt, IsRequestWithin, heade
 use Rattle.httparse.specs.declared.spans.Span.{Span}
 use Rattle.httparse.specs.declared.spans.HeaderSpan.{HeaderSpan}
 use Rattle.httparse.specs.declared.spans.RequestSpans.{RequestSpans}
-use Rattle.wire.specs.declared.TheConstants.{MOST_HEAD_BYTES, MOST_BODY_BYTES}
+use Rattle.wire.specs.declared.TheConstants.{MAX_HEAD_BYTES, MAX_BODY_BYTES}
 use Rattle.wire.specs.declared.fields.Framing.{Framing}
 use Rattle.wire.specs.declared.fields.Framing.TheVariants.{Length}
 use Rattle.wire.specs.declared.front.Judgement.TheVariants.{Whole, Stop, Open}
@@ -71,12 +71,12 @@ whole_message buf headers spans h n at within e fits =
     let p = print_request h in
     let r = drop spans.len (window buf) in
     let body = slice_range buf spans.len (spans.len + n) in
-    let cut = cut_at buf p (r ++ drop MOST_HEAD_BYTES buf) spans.len n (whole_front MOST_HEAD_BYTES buf p r at.reads.1) at.len in
+    let cut = cut_at buf p (r ++ drop MAX_HEAD_BYTES buf) spans.len n (whole_front MAX_HEAD_BYTES buf p r at.reads.1) at.len in
     let inside = within.section.len_fits in (
       record { head = h; body = body },
       record {
-        method = part_of_window MOST_HEAD_BYTES buf spans.method within.method.0 (omega arith) ∙ at.method;
-        target = part_of_window MOST_HEAD_BYTES buf spans.path within.path.0 (omega arith) ∙ at.path;
+        method = part_of_window MAX_HEAD_BYTES buf spans.method within.method.0 (omega arith) ∙ at.method;
+        target = part_of_window MAX_HEAD_BYTES buf spans.path within.path.0 (omega arith) ∙ at.path;
         method_within = (within.method.0, omega (arith, within.method.1));
         target_within = (within.path.0, omega (arith, within.path.1));
         head = at.len;
@@ -93,20 +93,20 @@ whole_message buf headers spans h n at within e fits =
 -- the body is cut short
 pub cut_message : (buf : List ℕ) (headers : List HeaderSpan) (spans : RequestSpans) (h : RequestHead) (n : ℕ)
     → IsRequestAt (window buf) headers spans h → IsRequestWithin (window buf) headers spans → framing h ≡ Length n
-    → n ≤ MOST_BODY_BYTES → length buf < spans.len + n → Judges buf Open
+    → n ≤ MAX_BODY_BYTES → length buf < spans.len + n → Judges buf Open
 cut_message buf headers spans h n at within e small cut =
     let inside = within.section.len_fits in
-    let l = length-take MOST_HEAD_BYTES buf in
+    let l = length-take MAX_HEAD_BYTES buf in
     (omega (arith, l, inside), λ some. inl (h, (drop spans.len (window buf), at.reads), n, e, omega (arith, at.len)))
 
 -- no head, and no fault yet
-pub open_message : (buf : List ℕ) → HasNoRequest (window buf) → (IsMalformed (window buf) → ⊥) → length buf < MOST_HEAD_BYTES → Judges buf Open
+pub open_message : (buf : List ℕ) → HasNoRequest (window buf) → (IsMalformed (window buf) → ⊥) → length buf < MAX_HEAD_BYTES → Judges buf Open
 open_message buf none fine short = (omega arith, λ some. inr (record { headless = none; well_formed = fine }, short, some))
 
 -- a window is full, and has no head
-pub long_message : (buf : List ℕ) → HasNoRequest (window buf) → (IsMalformed (window buf) → ⊥) → MOST_HEAD_BYTES ≤ length buf → Judges buf (Stop TooLarge)
+pub long_message : (buf : List ℕ) → HasNoRequest (window buf) → (IsMalformed (window buf) → ⊥) → MAX_HEAD_BYTES ≤ length buf → Judges buf (Stop TooLarge)
 long_message buf none fine long more =
-    let same = take-append-le MOST_HEAD_BYTES buf more long in
+    let same = take-append-le MAX_HEAD_BYTES buf more long in
     inr (
       record {
         headless = subst HasNoRequest (sym same) none;

@@ -7,7 +7,7 @@ use Rattle.std.proofs.lemmas.List.Elements.{All-head, All-tail}
 use Rattle.httparse.specs.Grammar.{is_token_byte, is_uri_byte, AllPass, LineEnd, crlf, lf, print_end, print_blank, Field, print_field, IsField, RequestHead, ReadsRequest, HasNoRequest, NeverHasRequest, MayBecomeRequest, EndsInTarget}
 use Rattle.httparse.specs.Spans.{RequestExceeds}
 use Rattle.httparse.proofs.GrammarLemmas.{ReadsRequest-append, print_request-append}
-use Rattle.wire.specs.declared.TheConstants.{MOST_HEAD_BYTES}
+use Rattle.wire.specs.declared.TheConstants.{MAX_HEAD_BYTES}
 use Rattle.wire.specs.Messages.{window, HeadAt, has_line, IsMalformed}
 
 -- ---- the window grows
@@ -21,7 +21,7 @@ take_grows (suc n) (b ∷ buf) more = let rest = take_grows n buf more in (rest.
 -- a head stays as more bytes come
 pub head_stays : (buf more after : List ℕ) (h : RequestHead) → ReadsRequest (window buf) h after → HeadAt (buf ++ more) h
 head_stays buf more after h r =
-    let g = take_grows MOST_HEAD_BYTES buf more in
+    let g = take_grows MAX_HEAD_BYTES buf more in
     (after ++ g.0, subst (λ (t : List ℕ). ReadsRequest t h (after ++ g.0)) (sym g.1) (ReadsRequest-append (window buf) h after g.0 r))
 
 -- ---- a line that has come stays
@@ -41,7 +41,7 @@ line_stays false (x ∷ xs) ys h =
 pub malformed_stays : (buf more : List ℕ) → has_line false (window buf) ≡ true → NeverHasRequest (window buf)
     → HasNoRequest (window (buf ++ more)) × IsMalformed (window (buf ++ more))
 malformed_stays buf more line never =
-    let g = take_grows MOST_HEAD_BYTES buf more in
+    let g = take_grows MAX_HEAD_BYTES buf more in
     subst (λ (t : List ℕ). HasNoRequest t × IsMalformed t) (sym g.1)
     (never g.0, (line_stays false (window buf) g.0 line, λ more' h r. never (g.0 ++ more') h [] (subst (λ (t : List ℕ). ReadsRequest t h []) (append_assoc (window buf) g.0 more') r)))
 
@@ -132,7 +132,7 @@ fields_long (f ∷ fs) h =
     simp length-append (omega arith)
 
 -- a window has no more fields than the parser has room for
-pub has_room : (buf : List ℕ) → length buf ≤ MOST_HEAD_BYTES → RequestExceeds 2800 buf → ⊥
+pub has_room : (buf : List ℕ) → length buf ≤ MAX_HEAD_BYTES → RequestExceeds 2800 buf → ⊥
 has_room buf short x =
     let h = x.3 in
     let e = x.4.1 ∙ print_request-append h [] in

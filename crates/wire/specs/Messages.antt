@@ -6,7 +6,7 @@ use Rattle.std.specs.Str.{str_eq_ignore_ascii_case}
 use Rattle.std.specs.Str.Parse.{digits_value}
 use Rattle.httparse.specs.Grammar.{RequestHead, print_request, ReadsRequest, HasNoRequest}
 use Rattle.httparse.specs.Spans.{name_and_value}
-use Rattle.wire.specs.declared.TheConstants.{MOST_HEAD_BYTES, MOST_FIELDS, MOST_BODY_BYTES, MOST_MESSAGES}
+use Rattle.wire.specs.declared.TheConstants.{MAX_HEAD_BYTES, MAX_FIELDS, MAX_BODY_BYTES, MAX_MESSAGES}
 use Rattle.wire.specs.declared.outcome.End.{End}
 use Rattle.wire.specs.declared.fields.Framing.{Framing}
 use Rattle.wire.specs.declared.fields.Framing.TheVariants.{Length, Wrong, Long}
@@ -35,7 +35,7 @@ is_number value = nat_lt 0 (length value) && list_all is_ascii_digit value
 abbrev pub length_of : List ℕ → Framing
 length_of value =
     if is_number value
-    then (if nat_lt MOST_BODY_BYTES (digits_value 10 value) then Long else Length (digits_value 10 value))
+    then (if nat_lt MAX_BODY_BYTES (digits_value 10 value) then Long else Length (digits_value 10 value))
     else Wrong
 
 -- no field gives 0, and two are one too many
@@ -47,7 +47,7 @@ framing_by (value ∷ other ∷ values) = Wrong
 -- no more fields than are served, version 1.1, no coding but the plain one, and at most one length
 abbrev pub framing_of : ℕ → List (List ℕ × List ℕ) → Framing
 framing_of minor fields =
-    if nat_lt MOST_FIELDS (length fields) then Long
+    if nat_lt MAX_FIELDS (length fields) then Long
     else if not (minor == 1) then Wrong
     else if list_any (is_named (codes "transfer-encoding")) fields then Wrong
     else framing_by (lengths fields)
@@ -58,7 +58,7 @@ framing h = framing_of h.minor (map name_and_value h.fields)
 
 -- the bytes in which a head stands
 abbrev pub window : List ℕ → List ℕ
-window rest = take MOST_HEAD_BYTES rest
+window rest = take MAX_HEAD_BYTES rest
 
 -- the head stands at the front of the rest of a stream
 abbrev pub HeadAt : List ℕ → RequestHead → Type 0
@@ -103,10 +103,10 @@ pub record BeginsWith (rest : List ℕ) (m : Message) (after : List ℕ) : Type 
 abbrev pub Stops : List ℕ → End → Type 0
 Stops rest BadHead =
     HeadFramed rest Wrong ⊎ (HasNoRequest (window rest) × IsMalformed (window rest))
-Stops rest TooLarge = HeadFramed rest Long ⊎ (IsOpen rest × (MOST_HEAD_BYTES ≤ length rest))
+Stops rest TooLarge = HeadFramed rest Long ⊎ (IsOpen rest × (MAX_HEAD_BYTES ≤ length rest))
 Stops rest Closed = rest ≡ []
 Stops rest Unfinished =
-    BodyCut rest ⊎ (IsOpen rest × (length rest < MOST_HEAD_BYTES) × (0 < length rest))
+    BodyCut rest ⊎ (IsOpen rest × (length rest < MAX_HEAD_BYTES) × (0 < length rest))
 Stops rest Hundred = ⊥
 
 -- no whole message stands there, and what there is may become one
@@ -120,11 +120,11 @@ Splits bytes (m ∷ messages) rest = (after : List ℕ) × BeginsWith bytes m af
 
 -- why no further message is taken after that many
 abbrev pub EndsAt : ℕ → List ℕ → End → Type 0
-EndsAt count rest Hundred = count ≡ MOST_MESSAGES
-EndsAt count rest Closed = (count < MOST_MESSAGES) × Stops rest Closed
-EndsAt count rest Unfinished = (count < MOST_MESSAGES) × Stops rest Unfinished
-EndsAt count rest BadHead = (count < MOST_MESSAGES) × Stops rest BadHead
-EndsAt count rest TooLarge = (count < MOST_MESSAGES) × Stops rest TooLarge
+EndsAt count rest Hundred = count ≡ MAX_MESSAGES
+EndsAt count rest Closed = (count < MAX_MESSAGES) × Stops rest Closed
+EndsAt count rest Unfinished = (count < MAX_MESSAGES) × Stops rest Unfinished
+EndsAt count rest BadHead = (count < MAX_MESSAGES) × Stops rest BadHead
+EndsAt count rest TooLarge = (count < MAX_MESSAGES) × Stops rest TooLarge
 
 -- the messages of a stream, and its end
 pub record Messages (bytes : List ℕ) (messages : List Message) (end : End) : Type 0 where

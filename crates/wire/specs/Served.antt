@@ -2,7 +2,7 @@
 use Rattle.std.specs.Prelude.{◌≡◌, ℕ, ◌+◌, ◌<◌, ◌≤◌, ◌⊎◌, List, [], ◌∷◌, ◌++◌, length, take, Option, Result, Err, IfOk, IfErr}
 use Rattle.std.specs.List.{concat}
 use Rattle.std.specs.Io.KnownBytes.{Appends, Consumes}
-use Rattle.wire.specs.declared.TheConstants.{MOST_MESSAGES}
+use Rattle.wire.specs.declared.TheConstants.{MAX_MESSAGES}
 use Rattle.wire.specs.declared.outcome.End.{End}
 use Rattle.wire.specs.Messages.{Message, Messages, Splits, Stops, IsCut}
 use Rattle.wire.specs.declared.outcome.Served.{Served}
@@ -56,8 +56,8 @@ pub record BrokeOff {S : Type 0} (step : S → MessageText → List ℕ → S �
   pub given : List ℕ
   pub read : Consumes left0 left given
   pub messages : List Message
-  pub few : length messages ≤ MOST_MESSAGES
-  pub none_after : fault ≡ Read → length messages < MOST_MESSAGES
+  pub few : length messages ≤ MAX_MESSAGES
+  pub none_after : fault ≡ Read → length messages < MAX_MESSAGES
   pub rest : List ℕ
   pub split : (more : List ℕ) → Splits (given ++ more) messages (rest ++ more)
   pub answers : List (List ℕ)

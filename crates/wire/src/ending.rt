@@ -4,7 +4,7 @@ ghost use Rattle.std.specs.Io.KnownBytes.{Appends};
 ghost use Rattle.wire.specs.Answers.{answer_bytes};
 ghost use Rattle.wire.specs.Run.{last_words, last_count};
 
-use crate::MOST_MESSAGES;
+use crate::MAX_MESSAGES;
 use crate::endpoints::Sink;
 use crate::handling::{Answer, Handler};
 use crate::outcome::{End, Served, StreamFault};
@@ -39,7 +39,7 @@ pub fn finish<D, H: Handler<D>, W: Sink>(
     answered: u32,
 ) -> Result<Served, StreamFault>
     requires failures { W.failures writer.old < 2 ^ 64 - 1 }
-    requires few { answered < MOST_MESSAGES }
+    requires few { answered < MAX_MESSAGES }
     ensures ok { IfOk result (λ s. s ≡ record { answered = answered + last_count end; end = end }) }
     ensures wrote { OnOk result (Appends (W.written writer.old) (W.written writer.new) (last_words H.refusal end)) }
     ensures err { OnErr result ((n : ℕ) × (n < length (last_words H.refusal end))

@@ -7,7 +7,7 @@ ghost use Rattle.httparse.specs.Spans.{IsHeaderWithin, header_bytes};
 ghost use Rattle.wire.specs.Inside.Messages.{IsShort};
 ghost use Rattle.wire.specs.Messages.{is_named, is_number, length_of, lengths, framing_by, framing_of};
 
-use crate::{MOST_BODY_BYTES, MOST_FIELDS};
+use crate::{MAX_BODY_BYTES, MAX_FIELDS};
 use httparse::spans::HeaderSpan;
 
 /// What a head says of its body: the length, that it says something wrong, or that there is too much.
@@ -54,11 +54,11 @@ fn is_number(value: &[u8]) -> bool
 /// Returns the number, as far as it can be a length.
 fn saturated(value: &[u8]) -> u64
     requires { IsTrue (is_number value.now) }
-    ensures { result ≡ min (digits_value 10 value.now) (MOST_BODY_BYTES + 1) }
+    ensures { result ≡ min (digits_value 10 value.now) (MAX_BODY_BYTES + 1) }
 {
     let mut total = 0;
     for digit in value {
-        total = (total * 10 + u64::from(*digit - b'0')).min(MOST_BODY_BYTES + 1);
+        total = (total * 10 + u64::from(*digit - b'0')).min(MAX_BODY_BYTES + 1);
     }
     total
 }
@@ -72,7 +72,7 @@ fn length_of(value: &[u8]) -> Framing
         return Framing::Wrong;
     }
     let number = saturated(value);
-    if number > MOST_BODY_BYTES {
+    if number > MAX_BODY_BYTES {
         return Framing::Long;
     }
     Framing::Length(number as usize)
@@ -106,7 +106,7 @@ pub fn framing_of(buf: &[u8], minor: u8, headers: &[HeaderSpan]) -> Framing
     ensures value { result ≡ framing_of minor (map (header_bytes buf.now) headers.now) }
     ensures small { IsShort result }
 {
-    if headers.len() > MOST_FIELDS {
+    if headers.len() > MAX_FIELDS {
         return Framing::Long;
     }
     if minor != 1 || has_field(buf, headers, b"transfer-encoding") {

@@ -3,7 +3,7 @@ ghost use Rattle.std.specs.Prelude.{◌≡◌, ◌≤◌, ◌+◌, ℕ, false, l
 ghost use Rattle.wire.specs.Messages.{has_line};
 ghost use Rattle.wire.specs.Inside.Judged.{FindsHead, Judges};
 
-use crate::MOST_HEAD_BYTES;
+use crate::MAX_HEAD_BYTES;
 use crate::fields::{Framing, framing_of};
 use crate::outcome::End;
 use httparse::spans::{HeaderSpan, RequestSpans, Span, parse_request};
@@ -55,7 +55,7 @@ fn has_line(buf: &[u8]) -> bool
 /// Looks for a head at the front.
 fn find_head(window: &[u8], headers: &mut [HeaderSpan]) -> Head
     requires room { length headers.old ≡ FIELDS }
-    requires short { length window.now ≤ MOST_HEAD_BYTES }
+    requires short { length window.now ≤ MAX_HEAD_BYTES }
     ensures { FindsHead window.now headers.new result }
 {
     match parse_request(window, headers) {
@@ -81,7 +81,7 @@ pub fn judge(buf: &[u8], headers: &mut [HeaderSpan]) -> Judgement
     requires { length headers.old ≡ FIELDS }
     ensures { Judges buf.now result }
 {
-    let window = &buf[..MOST_HEAD_BYTES.min(buf.len())];
+    let window = &buf[..MAX_HEAD_BYTES.min(buf.len())];
     match find_head(window, headers) {
         Head::Found(spans) => match framing_of(window, spans.version, &headers[..spans.headers]) {
             Framing::Wrong => Judgement::Stop(End::BadHead),
@@ -101,7 +101,7 @@ pub fn judge(buf: &[u8], headers: &mut [HeaderSpan]) -> Judgement
         },
         Head::Malformed => Judgement::Stop(End::BadHead),
         Head::Missing => {
-            if buf.len() < MOST_HEAD_BYTES {
+            if buf.len() < MAX_HEAD_BYTES {
                 Judgement::Open
             } else {
                 Judgement::Stop(End::TooLarge)

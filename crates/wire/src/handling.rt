@@ -3,12 +3,12 @@ ghost use Rattle.std.specs.Prelude.{◌≡◌, ℕ, List};
 ghost use Rattle.wire.specs.Answers.{answer_bytes};
 ghost use Rattle.wire.specs.Run.{MessageText};
 
-use crate::MOST_SHORT_TEXT;
+use crate::MAX_SHORT_TEXT;
 use crate::outcome::End;
 use arrayvec::ArrayVec;
 
 /// The bytes of a short answer.
-pub type ShortText = ArrayVec<u8, MOST_SHORT_TEXT>;
+pub type ShortText = ArrayVec<u8, MAX_SHORT_TEXT>;
 
 /// The bytes of an answer: in a fixed array, or in memory.
 #[derive(Drop)]

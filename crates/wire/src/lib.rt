@@ -29,22 +29,22 @@ pub use service::serve_messages;
 pub use writing::write_all;
 
 /// The most bytes of a head.
-pub const MOST_HEAD_BYTES: usize = 8_192;
+pub const MAX_HEAD_BYTES: usize = 8_192;
 
 /// The most fields of a head.
-pub const MOST_FIELDS: usize = 32;
+pub const MAX_FIELDS: usize = 32;
 
 /// The most bytes of a body.
-pub const MOST_BODY_BYTES: u64 = 65_536;
+pub const MAX_BODY_BYTES: u64 = 65_536;
 
 /// The most bytes of a message.
-pub const MOST_MESSAGE_BYTES: usize = MOST_HEAD_BYTES + MOST_BODY_BYTES as usize;
+pub const MAX_MESSAGE_BYTES: usize = MAX_HEAD_BYTES + MAX_BODY_BYTES as usize;
 
 /// The most messages of a stream that are answered.
-pub const MOST_MESSAGES: u32 = 100;
+pub const MAX_MESSAGES: u32 = 100;
 
 /// The most bytes of a short text.
-pub const MOST_SHORT_TEXT: usize = 384;
+pub const MAX_SHORT_TEXT: usize = 384;
 
 /// The most bytes of the body of a short answer; the rest of a short text has room for its head.
-pub const MOST_SHORT_BODY: usize = 240;
+pub const MAX_SHORT_BODY: usize = 240;

@@ -10,7 +10,7 @@ ghost use Rattle.wire.specs.Answers.{answer_bytes};
 ghost use Rattle.wire.specs.Inside.Served.{SoFar, GoesOnServing, BreaksOff};
 ghost use Rattle.wire.specs.Served.{IsServed};
 
-use crate::MOST_MESSAGES;
+use crate::MAX_MESSAGES;
 use crate::ending::finish;
 use crate::endpoints::{Sink, Source};
 use crate::front::{Judgement, Parts};
@@ -108,7 +108,7 @@ pub fn serve_messages<D, H: Handler<D>, R: Source, W: Sink>(
     let Ok(mut window) = Window::new(alloc) else {
         return Err(StreamFault::Memory);
     };
-    for answered in 0..MOST_MESSAGES {
+    for answered in 0..MAX_MESSAGES {
         match turn(handler, desk, reader, writer, &mut window) {
             Err(fault) => return Err(fault),
             Ok(found) => {
@@ -119,7 +119,7 @@ pub fn serve_messages<D, H: Handler<D>, R: Source, W: Sink>(
         }
     }
     Ok(Served {
-        answered: MOST_MESSAGES,
+        answered: MAX_MESSAGES,
         end: End::Hundred,
     })
 }

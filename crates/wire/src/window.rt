@@ -5,7 +5,7 @@ ghost use Rattle.wire.specs.Inside.Taken.{Grows, FindsMessage, AtEndIfNone, IsOp
 ghost use Rattle.wire.specs.declared.front.Judgement.TheVariants.{Open};
 ghost use Rattle.wire.specs.Inside.Judged.{Judges};
 
-use crate::MOST_MESSAGE_BYTES;
+use crate::MAX_MESSAGE_BYTES;
 use crate::endpoints::Source;
 use crate::front::{FIELDS, Judgement, Parts, judge};
 use crate::outcome::{End, StreamFault};
@@ -32,14 +32,14 @@ pub struct Window {
 
 impl Model for Window {
     ghost use Rattle.std.specs.Prelude.{◌≡◌, ◌≤◌, ℕ, List, length, vec_len, vec_capacity};
-    ghost use Rattle.wire.specs.declared.TheConstants.{MOST_MESSAGE_BYTES};
+    ghost use Rattle.wire.specs.declared.TheConstants.{MAX_MESSAGE_BYTES};
     ghost use Rattle.wire.specs.declared.front.TheConstants.{FIELDS};
 
     ghost Value = { List ℕ };
 
     ghost view = { λ w. w.bytes.items };
 
-    ghost invariant = { λ w. (vec_len w.bytes ≤ MOST_MESSAGE_BYTES) × ((MOST_MESSAGE_BYTES ≤ vec_capacity w.bytes) × (length w.headers.items ≡ FIELDS)) };
+    ghost invariant = { λ w. (vec_len w.bytes ≤ MAX_MESSAGE_BYTES) × ((MAX_MESSAGE_BYTES ≤ vec_capacity w.bytes) × (length w.headers.items ≡ FIELDS)) };
 }
 
 impl Window {
@@ -48,7 +48,7 @@ impl Window {
         ensures { IfOk result (λ window. window ≡ []) }
     {
         Ok(Window {
-            bytes: Vec::with_capacity(alloc, MOST_MESSAGE_BYTES)?,
+            bytes: Vec::with_capacity(alloc, MAX_MESSAGE_BYTES)?,
             headers: Vec::from_elem(alloc, EMPTY_HEADER_SPAN, FIELDS)?,
         })
     }
@@ -82,7 +82,7 @@ impl Window {
     fn refill<R: Source>(&mut self, reader: &mut R) -> Result<usize, StreamFault>
         requires failures { R.failures reader.old < 2 ^ 64 - 1 }
         requires open { R.ended reader.old ≡ false }
-        requires room { length self.old < MOST_MESSAGE_BYTES }
+        requires room { length self.old < MAX_MESSAGE_BYTES }
         ensures grows { Grows self.old self.new (R.left reader.old) (R.left reader.new) }
         ensures ok { IfOk result (λ n. AtEndIfNone n self.old self.new (R.left reader.new) × (R.ended reader.new ≡ (n == 0))) }
         ensures same { OnErr result (self.new ≡ self.old) }
@@ -90,7 +90,7 @@ impl Window {
         ensures count { R.failures reader.new ≡ R.failures reader.old + read_failed result }
     {
         let mut chunk = [0u8; CHUNK];
-        let room = CHUNK.min(MOST_MESSAGE_BYTES - self.bytes.len());
+        let room = CHUNK.min(MAX_MESSAGE_BYTES - self.bytes.len());
         match reader.read(&mut chunk[..room]) {
             Ok(n) => {
                 let _ = self.bytes.extend_from_slice(&chunk[..n]);
@@ -106,7 +106,7 @@ impl Window {
         requires open { R.ended reader.old ≡ false }
         ensures grows { Grows self.old self.new (R.left reader.old) (R.left reader.new) }
         ensures some { IfOk result (λ found. IfSome found (λ next. FindsMessage self.new (R.left reader.new) next × IsOpenBut next (R.ended reader.new))) }
-        ensures none { IfOk result (λ found. IfNone found ((length self.old < MOST_MESSAGE_BYTES) × ((length self.old < length self.new) × (R.ended reader.new ≡ false)))) }
+        ensures none { IfOk result (λ found. IfNone found ((length self.old < MAX_MESSAGE_BYTES) × ((length self.old < length self.new) × (R.ended reader.new ≡ false)))) }
         ensures open { OnErr result (Judges self.new Judgement.Open) }
         ensures fault { IfErr result (λ e. e ≡ StreamFault.Read) }
         ensures count { R.failures reader.new ≡ R.failures reader.old + read_failed result }

@@ -2,13 +2,13 @@
 use Rattle.std.specs.Prelude.{ℕ, ◌==◌, nat_le, Bool, true, false, ◌&&◌, List, [], ◌∷◌, length, Option, Some, None, if◌then◌else◌}
 use Rattle.std.specs.Option.{option_map}
 use Rattle.std.specs.Str.{bytes_eq}
-use Rattle.spa.specs.declared.TheConstants.{MOST_PLACES}
+use Rattle.spa.specs.declared.TheConstants.{MAX_QUOTA}
 use Rattle.spa.specs.declared.aim.Aim.{Aim}
 use Rattle.spa.specs.declared.aim.Aim.TheVariants.{Greedy, Generous}
 use Rattle.spa.specs.Text.{is_code, is_label}
 use Rattle.row_data.specs.declared.cell.Cell.TheVariants.{Text, Number, Bytes}
 use Rattle.row_data.specs.Rows.{Cells}
-use Rattle.rolls.specs.declared.TheConstants.{MOST_IMPORT_BYTES}
+use Rattle.rolls.specs.declared.TheConstants.{MAX_IMPORT_BYTES}
 use Rattle.rolls.specs.declared.entries.Supervisor.{Supervisor}
 use Rattle.rolls.specs.declared.entries.Project.{Project}
 use Rattle.rolls.specs.declared.entries.Student.{Student}
@@ -43,13 +43,13 @@ kind_in word =
 -- the supervisor of a row
 abbrev pub supervisor_in : Cells → Option Supervisor
 supervisor_in (Text code ∷ Text label ∷ Number quota ∷ []) =
-    where_so (is_code code && (is_label label && nat_le quota MOST_PLACES)) (record { code = code; label = label; quota = quota })
+    where_so (is_code code && (is_label label && nat_le quota MAX_QUOTA)) (record { code = code; label = label; quota = quota })
 supervisor_in _ = None
 
 -- the project of a row
 abbrev pub project_in : Cells → Option Project
 project_in (Text code ∷ Text label ∷ Text supervisor ∷ Number quota ∷ []) =
-    where_so (is_code code && (is_label label && (is_code supervisor && nat_le quota MOST_PLACES)))
+    where_so (is_code code && (is_label label && (is_code supervisor && nat_le quota MAX_QUOTA)))
     (record { code = code; label = label; supervisor = supervisor; quota = quota })
 project_in _ = None
 
@@ -78,7 +78,7 @@ placement_in _ = None
 abbrev pub import_of : List ℕ → List ℕ → ℕ → Option ImportKind → Option Import
 import_of id bytes rows None = None
 import_of id bytes rows (Some kind) =
-    where_so (is_code id && (nat_le (length bytes) MOST_IMPORT_BYTES && nat_le rows MOST_IMPORT_BYTES)) (record { id = id; kind = kind; bytes = bytes; rows = rows })
+    where_so (is_code id && (nat_le (length bytes) MAX_IMPORT_BYTES && nat_le rows MAX_IMPORT_BYTES)) (record { id = id; kind = kind; bytes = bytes; rows = rows })
 
 -- the import of a row
 abbrev pub import_in : Cells → Option Import

@@ -3,8 +3,8 @@ use Rattle.std.specs.Prelude.{◌-◌, ℕ, nat_le, Bool, false, not, ◌&&◌, 
 use Rattle.std.specs.List.{list_all}
 use Rattle.std.specs.Option.{option_map_or}
 use Rattle.std.specs.Str.{bytes_eq}
-use Rattle.spa.specs.declared.TheConstants.{MOST_SUPERVISORS, MOST_PROJECTS, MOST_STUDENTS, RANKS}
-use Rattle.rolls.specs.declared.TheConstants.{MOST_ROUNDS, MOST_IMPORTS}
+use Rattle.spa.specs.declared.TheConstants.{MAX_SUPERVISORS, MAX_PROJECTS, MAX_STUDENTS, RANKS}
+use Rattle.rolls.specs.declared.TheConstants.{MAX_ROUNDS, MAX_IMPORTS}
 use Rattle.rolls.specs.declared.rounds.Listed.{Listed}
 use Rattle.rolls.specs.declared.rounds.Placement.{Placement}
 use Rattle.rolls.specs.State.{State, has_supervisor, has_project, has_student, is_placed_before, is_closed, choices_in, placed_in_project, placed_with_supervisor}
@@ -13,8 +13,8 @@ use Rattle.rolls.specs.Fit.{are_aimed, are_numbered, only_last_open, is_distinct
 -- nothing is too long
 abbrev pub are_few : State → Bool
 are_few o =
-    nat_le (length o.supervisors) MOST_SUPERVISORS && (nat_le (length o.projects) MOST_PROJECTS && (nat_le (length o.students) MOST_STUDENTS
-    && (nat_le (length o.rounds) MOST_ROUNDS && (nat_le (length o.placements) MOST_STUDENTS && nat_le (length o.imports) MOST_IMPORTS))))
+    nat_le (length o.supervisors) MAX_SUPERVISORS && (nat_le (length o.projects) MAX_PROJECTS && (nat_le (length o.students) MAX_STUDENTS
+    && (nat_le (length o.rounds) MAX_ROUNDS && (nat_le (length o.placements) MAX_STUDENTS && nat_le (length o.imports) MAX_IMPORTS))))
 
 -- the supervisor of each project is on the roll
 abbrev pub are_offered : State → Bool

@@ -2,7 +2,7 @@
 use Rattle.std.specs.Prelude.{◌≡◌, Bool, true, false, replicate, ◌-◌, ℕ, zero, suc, ◌<◌, ◌≤◌, ℤ, List, [], ◌∷◌, ◌++◌, length, map, slice_get, codes, None, Some, IsTrue, Contains}
 use Rattle.std.specs.Fmt.{signed_decimal}
 use Rattle.spa.specs.declared.aim.Aim.{Aim}
-use Rattle.spa.specs.declared.TheConstants.{MOST_SUPERVISORS, MOST_PROJECTS, MOST_STUDENTS, MOST_PLACES}
+use Rattle.spa.specs.declared.TheConstants.{MAX_SUPERVISORS, MAX_PROJECTS, MAX_STUDENTS, MAX_QUOTA}
 use Rattle.spa.specs.Text.{is_code}
 use Rattle.spa.specs.Shape.{IsPlaceOf}
 use Rattle.spa.specs.Codes.{code_at}
@@ -39,20 +39,20 @@ NextAim old row new = aim_rows new ≡ aim_rows old ++ row ∷ []
 -- the row is that of the supervisor, whose code comes next
 pub record NextSupervisor (p : Parts) (row : Row) (e : Supervisor) : Type 0 where
   pub is : row ≡ supervisor_row e
-  pub code : ComesNext MOST_SUPERVISORS (supervisor_codes p.instance) e.code
-  pub quota : e.quota ≤ MOST_PLACES
+  pub code : ComesNext MAX_SUPERVISORS (supervisor_codes p.instance) e.code
+  pub quota : e.quota ≤ MAX_QUOTA
 
 -- the row is that of the project, whose code comes next
 pub record NextProject (p : Parts) (row : Row) (e : Project) : Type 0 where
   pub is : row ≡ project_row e
-  pub code : ComesNext MOST_PROJECTS (project_codes p.instance) e.code
+  pub code : ComesNext MAX_PROJECTS (project_codes p.instance) e.code
   pub known : Contains (supervisor_codes p.instance) e.supervisor
-  pub quota : e.quota ≤ MOST_PLACES
+  pub quota : e.quota ≤ MAX_QUOTA
 
 -- the row is that of the student, whose code comes next
 pub record NextStudent (p : Parts) (row : Row) (e : Student) : Type 0 where
   pub is : row ≡ student_row e
-  pub code : ComesNext MOST_STUDENTS (student_codes p.instance) e.code
+  pub code : ComesNext MAX_STUDENTS (student_codes p.instance) e.code
   pub list : IsSoundList (project_codes p.instance) e.list
 
 -- the row is that of the place k of the student at s, who is after those that had their turn

@@ -1,8 +1,8 @@
 -- The three phases of a flow and of the residual network: between two admissions, searching, pushing. And what an admission asks and does.
 use Rattle.std.specs.Prelude.{◌≡◌, ℕ, ◌+◌, ◌*◌, ◌^◌, ◌<◌, ◌≤◌, Bool, true, List, [], ◌∷◌, ◌++◌, length, slice_get, Some, None}
 use Rattle.std.specs.Vec.{vec_len, vec_capacity}
-use Rattle.spa.specs.declared.TheConstants.{MOST_STUDENTS, RANKS}
-use Rattle.network.specs.declared.TheConstants.{MOST_ARCS, MOST_RELAXATIONS}
+use Rattle.spa.specs.declared.TheConstants.{MAX_STUDENTS, RANKS}
+use Rattle.network.specs.declared.TheConstants.{MAX_ARCS, MAX_RELAXATIONS}
 use Rattle.spa.specs.Laws.{Ops}
 use Rattle.network.specs.Seen.{is_place}
 use Rattle.network.specs.Inside.View.{IsKnownList}
@@ -73,7 +73,7 @@ pub record MaySearch {G : Type 0} (o : Ops G) (r : Residual G) (l : Labels G) (f
 pub record BetweenCalls {G : Type 0} (o : Ops G) (r : Residual G) (l : Labels G) : Type 0 where
   pub residual : BetweenResidual o r
   pub blank : AreBlank o l (length r.flow.potentials.items)
-  pub few : l.compared ≤ MOST_RELAXATIONS * length r.flow.lists.items
+  pub few : l.compared ≤ MAX_RELAXATIONS * length r.flow.lists.items
 
 -- one step of a push: the next hole was settled earlier
 pub record IsNextHole {G : Type 0} (o : Ops G) (f : Flow G) (marks : List (Mark G)) (fresh : ℕ) (top : G) (hole next : ℕ) : Type 0 where
@@ -93,7 +93,7 @@ HasSameRolls old new = new ≡ record old { held = new.held; filled = new.filled
 
 -- a list that may come in: there is room for it, it is short, and each entry names a known project
 pub record MayEnter {G : Type 0} (o : Ops G) (f : Flow G) (row : Row G) : Type 0 where
-  pub few : length f.lists.items < MOST_STUDENTS
+  pub few : length f.lists.items < MAX_STUDENTS
   pub short : length row.items ≤ RANKS
   pub known : IsKnownList o (project_count f) row.items
   pub list_room : vec_len f.lists < vec_capacity f.lists
@@ -110,7 +110,7 @@ pub record HasEntered {G : Type 0} (old new : Flow G) (row : Row G) (has_place :
 
 -- the arcs out of a node with this label may be offered what the label makes of them
 pub record MayExpand {G : Type 0} (o : Ops G) (r : Residual G) (l : Labels G) (label : G) : Type 0 where
-  pub compare : MayCompare o r.flow l label 2 MOST_ARCS
+  pub compare : MayCompare o r.flow l label 2 MAX_ARCS
   pub kept : IsSeating r.flow r.kept
 
 -- the offers of all students who are placed at a project

@@ -1,6 +1,6 @@
 -- What a call may hand in.
 use Rattle.std.specs.Prelude.{◌≡◌, ℕ, Some, ◌≤◌, ◌<◌, List, All, length, slice_get}
-use Rattle.spa.specs.declared.TheConstants.{MOST_SUPERVISORS, MOST_PROJECTS, MOST_STUDENTS, MOST_PLACES, RANKS}
+use Rattle.spa.specs.declared.TheConstants.{MAX_SUPERVISORS, MAX_PROJECTS, MAX_STUDENTS, MAX_QUOTA, RANKS}
 use Rattle.spa.specs.Laws.{Ops}
 use Rattle.network.specs.declared.flow.Flow.{Flow}
 
@@ -10,14 +10,14 @@ IsKnownList {G} o projects list = (k p : ℕ) (w : G) → slice_get list k ≡ S
 
 -- a student with this list may be admitted
 pub record IsAdmissible {G : Type 0} (o : Ops G) (f : Flow G) (list : List (ℕ × G)) : Type 0 where
-  pub few : length f.lists.items < MOST_STUDENTS
+  pub few : length f.lists.items < MAX_STUDENTS
   pub short : length list ≤ RANKS
   pub known : IsKnownList o (length f.projects.items) list
 
 -- supervisors with their quotas and projects with supervisor and quota, within the limits
 pub record AreQuotaRolls (supervisors : List ℕ) (projects : List (ℕ × ℕ)) : Type 0 where
-  pub few_supervisors : length supervisors ≤ MOST_SUPERVISORS
-  pub few_projects : length projects ≤ MOST_PROJECTS
+  pub few_supervisors : length supervisors ≤ MAX_SUPERVISORS
+  pub few_projects : length projects ≤ MAX_PROJECTS
   pub offered : All (λ p. p.0 < length supervisors) projects
-  pub supervisor_quotas : All (λ q. q ≤ MOST_PLACES) supervisors
-  pub project_quotas : All (λ p. p.1 ≤ MOST_PLACES) projects
+  pub supervisor_quotas : All (λ q. q ≤ MAX_QUOTA) supervisors
+  pub project_quotas : All (λ p. p.1 ≤ MAX_QUOTA) projects

@@ -1,7 +1,7 @@
 //! Imports: plain requests one after another, all of them or none.
 
 ghost use Rattle.std.specs.Prelude.{◌≡◌, ◌≤◌, ◌⊎◌, ◌&&◌, not, nat_le, false, Ok, Some, None, IfOk, IfErr, OnOk, length};
-ghost use Rattle.rolls.specs.declared.TheConstants.{MOST_IMPORT_BYTES, MOST_IMPORTS};
+ghost use Rattle.rolls.specs.declared.TheConstants.{MAX_IMPORT_BYTES, MAX_IMPORTS};
 ghost use Rattle.rolls.specs.State.{has_import, kept_rows};
 ghost use Rattle.rolls.specs.Fit.{ImportFits};
 ghost use Rattle.rolls.specs.Refusing.{first, import_tests, is_other_import};
@@ -13,8 +13,8 @@ ghost use Rattle.office.specs.Inside.Importing.{AreMade};
 use super::Office;
 use crate::making::code_of;
 use rolls::{
-    Bytes, Change, Done, Import, ImportKind, MOST_IMPORT_BYTES, MOST_IMPORTS, Plain, Refusal,
-    Reply, Text,
+    Bytes, Change, Done, Import, ImportKind, MAX_IMPORT_BYTES, MAX_IMPORTS, Plain, Refusal, Reply,
+    Text,
 };
 use spa::is_code_text;
 use std::alloc::AllocError;
@@ -38,13 +38,13 @@ impl Office {
         if !is_code_text(id) {
             return Some(Refusal::Code);
         }
-        if bytes.len() > MOST_IMPORT_BYTES {
+        if bytes.len() > MAX_IMPORT_BYTES {
             return Some(Refusal::TooLarge);
         }
         if self.is_other_import(id, kind, bytes) {
             return Some(Refusal::ImportIdUsed);
         }
-        if self.imports.by_code(id).is_none() && self.imports.entries().len() >= MOST_IMPORTS {
+        if self.imports.by_code(id).is_none() && self.imports.entries().len() >= MAX_IMPORTS {
             return Some(Refusal::RollFull);
         }
         None
@@ -71,7 +71,7 @@ impl Office {
         bytes: Bytes,
         rows: Vec<Plain>,
     ) -> Result<Done, Refusal>
-        requires few { length rows.items ≤ MOST_IMPORT_BYTES }
+        requires few { length rows.items ≤ MAX_IMPORT_BYTES }
         ensures step { Imports id kind bytes rows.items self.old self.new result }
         ensures changes { IfOk result (λ done. let changes = done.changes in changes.items ≡ import_changes id kind bytes rows.items self.old) }
     {
@@ -99,7 +99,7 @@ impl Office {
         bytes: Bytes,
         rows: Vec<Plain>,
     ) -> Result<Done, Refusal>
-        requires few { length rows.items ≤ MOST_IMPORT_BYTES }
+        requires few { length rows.items ≤ MAX_IMPORT_BYTES }
         requires allowed { first (import_tests self.old id kind bytes) ≡ None }
         requires free { kept_rows self.old id ≡ None }
         ensures ok { IfOk result (λ done. Imports id kind bytes rows.items self.old self.new (Ok done)) }
@@ -126,7 +126,7 @@ impl Office {
 
     /// Makes plain requests one after another, and hands over their changes. Where one is refused, those before it were made.
     fn make_all(&mut self, rows: Vec<Plain>) -> Result<Vec<Change>, Refusal>
-        requires few { length rows.items ≤ MOST_IMPORT_BYTES }
+        requires few { length rows.items ≤ MAX_IMPORT_BYTES }
         ensures ok { IfOk result (λ changes. AreMade rows.items self.old self.new changes.items) }
         ensures err { IfErr result (λ refusal. (refusal ≡ Refusal.Memory) ⊎ (rows_refusal 1 self.old rows.items ≡ Some refusal)) }
     {
@@ -149,7 +149,7 @@ impl Office {
     /// Keeps an import.
     fn keep(&mut self, import: Import) -> Result<(), AllocError>
         requires fits { ImportFits import }
-        requires room { (not (has_import self.old import.id) && nat_le MOST_IMPORTS (let o = self.old in length o.imports)) ≡ false }
+        requires room { (not (has_import self.old import.id) && nat_le MAX_IMPORTS (let o = self.old in length o.imports)) ≡ false }
         ensures { OnOk result (self.new ≡ with_import import self.old) }
     {
         self.imports.put(import)?;

@@ -7,9 +7,9 @@ ghost use Rattle.rolls.specs.declared.request.Plain.TheVariants as ask;
 ghost use Rattle.rolls.specs.Refusing.{first, plain_refusal, is_moved, choice_tests, open_tests, opening_tests};
 
 use super::Office;
-use rolls::{MOST_ROUNDS, Refusal, Text};
+use rolls::{MAX_ROUNDS, Refusal, Text};
 use spa::{
-    MOST_PLACES, MOST_PROJECTS, MOST_STUDENTS, MOST_SUPERVISORS, RANKS, is_code_text, is_label_text,
+    MAX_PROJECTS, MAX_QUOTA, MAX_STUDENTS, MAX_SUPERVISORS, RANKS, is_code_text, is_label_text,
 };
 
 impl Office {
@@ -23,14 +23,14 @@ impl Office {
         if !is_label_text(label) {
             return Some(Refusal::Label);
         }
-        if quota > MOST_PLACES {
+        if quota > MAX_QUOTA {
             return Some(Refusal::Quota);
         }
         if quota < self.placed_with_supervisor(code) {
             return Some(Refusal::BelowPlaced);
         }
         if self.supervisors.by_code(code).is_none()
-            && self.supervisors.entries().len() >= MOST_SUPERVISORS
+            && self.supervisors.entries().len() >= MAX_SUPERVISORS
         {
             return Some(Refusal::RollFull);
         }
@@ -56,7 +56,7 @@ impl Office {
         if !is_label_text(label) {
             return Some(Refusal::Label);
         }
-        if quota > MOST_PLACES {
+        if quota > MAX_QUOTA {
             return Some(Refusal::Quota);
         }
         if self.supervisors.by_code(supervisor).is_none() {
@@ -68,7 +68,7 @@ impl Office {
         if quota < self.placed_in_project(code) {
             return Some(Refusal::BelowPlaced);
         }
-        if self.projects.by_code(code).is_none() && self.projects.entries().len() >= MOST_PROJECTS {
+        if self.projects.by_code(code).is_none() && self.projects.entries().len() >= MAX_PROJECTS {
             return Some(Refusal::RollFull);
         }
         None
@@ -84,7 +84,7 @@ impl Office {
         if !is_label_text(label) {
             return Some(Refusal::Label);
         }
-        if self.students.by_code(code).is_none() && self.students.entries().len() >= MOST_STUDENTS {
+        if self.students.by_code(code).is_none() && self.students.entries().len() >= MAX_STUDENTS {
             return Some(Refusal::RollFull);
         }
         None
@@ -107,7 +107,7 @@ impl Office {
         if self.round_is_open() {
             return Some(Refusal::RoundIsOpen);
         }
-        if self.last_round() >= MOST_ROUNDS {
+        if self.last_round() >= MAX_ROUNDS {
             return Some(Refusal::RoundsFull);
         }
         None

@@ -1,7 +1,7 @@
 //! Placements, and what is counted of them.
 
 ghost use Rattle.std.specs.Prelude.{◌≡◌, ℕ, ◌+◌, ◌<◌, ◌==◌, ◌&&◌, ◌≤◌, IsTrue, count_by, length};
-ghost use Rattle.spa.specs.declared.TheConstants.{MOST_STUDENTS};
+ghost use Rattle.spa.specs.declared.TheConstants.{MAX_STUDENTS};
 ghost use Rattle.rolls.specs.State.{placed_in_project, placed_with_supervisor};
 ghost use Rattle.rolls.specs.Stepping.{by_rank};
 
@@ -17,14 +17,14 @@ impl Office {
         self.placements.entries()
     }
 
-    /// Returns how many students all rounds placed with a supervisor: at most `spa::MOST_STUDENTS`.
+    /// Returns how many students all rounds placed with a supervisor: at most `spa::MAX_STUDENTS`.
     pub(crate) fn placed_with_supervisor(&self, code: &str) -> u32
         ensures { result ≡ placed_with_supervisor self.now code.now }
     {
         closing::placed_with_supervisor(&self.projects, self.placements.entries(), code) as u32
     }
 
-    /// Returns how many students all rounds placed in a project: at most `spa::MOST_STUDENTS`.
+    /// Returns how many students all rounds placed in a project: at most `spa::MAX_STUDENTS`.
     pub(crate) fn placed_in_project(&self, code: &str) -> u32
         ensures { result ≡ placed_in_project self.now code.now }
     {
@@ -54,7 +54,7 @@ fn placed_at(placements: &[Placement], round: u32, rank: u32) -> usize
 
 /// Returns how many of them have rank 1 and so on.
 pub(crate) fn ranked(placements: &[Placement], round: u32) -> [u32; RANKS]
-    requires few { length placements.now ≤ MOST_STUDENTS }
+    requires few { length placements.now ≤ MAX_STUDENTS }
     ensures { result ≡ by_rank (λ k. count_by (λ p. (p.round == round) && (p.rank == k + 1)) placements.now) }
 {
     let mut counts = [0; RANKS];

@@ -1,7 +1,7 @@
 -- For proofs alone. How many placements each project and each supervisor has, by position in the rolls.
 use Rattle.std.specs.Prelude.{◌≡◌, ℕ, ◌+◌, ◌<◌, ◌≤◌, ◌==◌, ◌&&◌, cond, false, List, slice_get, slice_index, Option, Some}
 use Rattle.std.specs.Str.{bytes_eq}
-use Rattle.spa.specs.declared.TheConstants.{MOST_SUPERVISORS, MOST_PROJECTS}
+use Rattle.spa.specs.declared.TheConstants.{MAX_SUPERVISORS, MAX_PROJECTS}
 use Rattle.spa.specs.Counted.{Counted}
 use Rattle.rolls.specs.declared.entries.Supervisor.{Supervisor}
 use Rattle.rolls.specs.declared.entries.Project.{Project}
@@ -10,8 +10,8 @@ use Rattle.rolls.specs.Counted.{is_made_by, offers}
 
 -- a project stands at a position of its roll, and its supervisor at one of the other, and nowhere else
 pub record ArePositions (supervisors : List Supervisor) (projects : List Project) (project : List ℕ) (p l : ℕ) : Type 0 where
-  pub project_within : p < MOST_PROJECTS
-  pub supervisor_within : l < MOST_SUPERVISORS
+  pub project_within : p < MAX_PROJECTS
+  pub supervisor_within : l < MAX_SUPERVISORS
   pub project_there : (k : ℕ) (e : Project) → slice_get projects k ≡ Some e → bytes_eq e.code project ≡ (p == k)
   pub supervisor_there : (k : ℕ) (s : Supervisor) → slice_get supervisors k ≡ Some s → offers projects s.code project ≡ (l == k)
 

@@ -2,7 +2,7 @@
 use Rattle.std.specs.Prelude.{◌≡◌, ℕ, ◌+◌, ◌<◌, List, ◌++◌, length, Option}
 use Rattle.std.specs.List.{concat}
 use Rattle.std.specs.Io.KnownBytes.{Appends, Consumes}
-use Rattle.wire.specs.declared.TheConstants.{MOST_MESSAGES}
+use Rattle.wire.specs.declared.TheConstants.{MAX_MESSAGES}
 use Rattle.wire.specs.declared.outcome.End.{End}
 use Rattle.wire.specs.Messages.{Message, Splits}
 use Rattle.wire.specs.declared.outcome.StreamFault.{StreamFault}
@@ -33,4 +33,4 @@ abbrev pub BreaksOff : {S : Type 0} → (S → MessageText → List ℕ → S �
     → Option (List ℕ) → Option (List ℕ) → S → StreamFault → Type 0
 BreaksOff {S} step refusal left w rest now left' w' now' fault =
     (before : S) (left0 w0 : Option (List ℕ)) (count : ℕ)
-    → SoFar step before left0 w0 left w rest count now → count < MOST_MESSAGES → BrokeOff step refusal before left0 w0 left' w' now' fault
+    → SoFar step before left0 w0 left w rest count now → count < MAX_MESSAGES → BrokeOff step refusal before left0 w0 left' w' now' fault

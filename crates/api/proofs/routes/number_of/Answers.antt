@@ -21,5 +21,5 @@ returns c =
     let text = c.args.text.now in
     let digits : all_ascii_digits text ≡ true = ap all_ascii_digits (sym c.as_bytes.ensures.value) ∙ sym c.all_digits.ensures ∙ c.if-not-all_digits.false in
     let some : 0 < length text = search rules in
-    let short : digits_value 10 text < 10 ^ 4 = digits_value_short own text 4 digits c.if-text-gt-MOST_DIGITS.false in
+    let short : digits_value 10 text < 10 ^ 4 = digits_value_short own text 4 digits c.if-text-gt-MAX_DIGITS.false in
     c.ok.ensures.value ∙ ap result_ok (parse_gives own 32 text c.parse.result c.parse.ensures.value.0 digits some (omega arith)) ∙ sym (numbered text some (omega arith) digits)

@@ -9,12 +9,12 @@ returns-in_default c = λ n h e. c.in_default.ensures.cases.0 (subst (λ (bs : L
 pub returns-in_default-parse : goal.returns-in_default-parse
 returns-in_default-parse c = λ n h e. c.in_default-parse.not-Ok n (quota_parsed n c.in-Ok.text.now c.parse.result h (c.in-Ok.ensures.cases.0 ∙ e) c.parse.ensures.value.0)
 
-pub returns-then-quota-gt-MOST_PLACES : goal.returns-then-quota-gt-MOST_PLACES
-returns-then-quota-gt-MOST_PLACES c = λ n h e.
+pub returns-then-quota-gt-MAX_QUOTA : goal.returns-then-quota-gt-MAX_QUOTA
+returns-then-quota-gt-MAX_QUOTA c = λ n h e.
     let r = quota_parsed n c.in-Ok.text.now c.parse.result h (c.in-Ok.ensures.cases.0 ∙ e) c.parse.ensures.value.0 in
     let same : Ok c.in-Ok-parse.quota ≡ Ok n = sym c.in-Ok-parse.is ∙ r in
     let q : c.in-Ok-parse.quota ≡ n = cc in
-    omega (arith, c.if-quota-gt-MOST_PLACES.true)
+    omega (arith, c.if-quota-gt-MAX_QUOTA.true)
 
 pub returns-then-not-is_decimal : goal.returns-then-not-is_decimal
 returns-then-not-is_decimal c = λ n h e.

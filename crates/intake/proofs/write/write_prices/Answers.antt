@@ -2,7 +2,7 @@ use Rattle.std.proofs.Common.{◌≡◌, ℕ, ◌+◌, ◌<◌, [], ◌∷◌, �
 use Rattle.std.specs.Fmt.{signed_decimal}
 use Rattle.std.proofs.lemmas.Result.{err_from_is_err_and}
 use Rattle.std.proofs.lemmas.List.{get_or_read, get_or_default}
-use Rattle.spa.specs.declared.TheConstants.{PLACES}
+use Rattle.spa.specs.declared.TheConstants.{COMPONENTS}
 use Rattle.intake.specs.Lines.{line}
 use Rattle.intake.proofs.RestOfText.{price_text, next, next_price, last_price, one_more}
 use Rattle.intake.proofs.write.write_prices.Goals as goal
@@ -21,7 +21,7 @@ loop-n-preserved c =
       text = next (string_bytes c.loop-n.out) (string_bytes c.push_price.new.out) (line c.args.letter.now (c.as_str.result.now ∷ map signed_decimal (get_or c.args.prices.now n [])) ++ 10 ∷ [])
           (price_text c.args.letter.now (drop (n + 1) c.args.roll.now) (drop (n + 1) c.args.prices.now))
           _ c.in_ok-push_price.ensures (ap (λ rest. string_bytes c.loop-n.out ++ rest) (sym some) ∙ c.loop-n.invariant.text);
-      numbers = one_more (λ v. length v ≡ PLACES) c.args.prices.now n c.loop-n.invariant.numbers (λ d. ap length (get_or_default c.args.prices.now n d [] priced) ∙ c.told-prices n priced);
+      numbers = one_more (λ v. length v ≡ COMPONENTS) c.args.prices.now n c.loop-n.invariant.numbers (λ d. ap length (get_or_default c.args.prices.now n d [] priced) ∙ c.told-prices n priced);
     }
 
 pub push_price-requires : goal.push_price-requires

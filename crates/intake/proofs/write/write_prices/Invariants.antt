@@ -1,5 +1,5 @@
 use Rattle.std.proofs.Common.{◌≡◌, ℕ, ◌<◌, ℤ, List, length, ◌++◌, drop, get_or, string_bytes}
-use Rattle.spa.specs.declared.TheConstants.{PLACES}
+use Rattle.spa.specs.declared.TheConstants.{COMPONENTS}
 use Rattle.intake.proofs.RestOfText.{price_text}
 use Rattle.intake.proofs.write.write_prices.Given as goal
 
@@ -7,5 +7,5 @@ abbrev pub invariant-loop-n : goal.invariant-loop-n
 invariant-loop-n l = record {
   text : string_bytes l.out ++ price_text l.letter (drop l.n l.roll) (drop l.n l.prices)
       ≡ string_bytes l.fn.out ++ price_text l.letter l.roll l.prices;
-  numbers : (k : ℕ) (d : List ℤ) → k < l.n → length (get_or l.prices k d) ≡ PLACES;
+  numbers : (k : ℕ) (d : List ℤ) → k < l.n → length (get_or l.prices k d) ≡ COMPONENTS;
 }

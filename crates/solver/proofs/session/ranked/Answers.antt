@@ -1,5 +1,5 @@
 use Rattle.std.proofs.Common.{ℕ, ◌≡◌, ◌+◌, ◌-◌, ◌<◌, ◌≤◌, ◌==◌, ◌∙◌, cond, eqb, arith, List, length, map, Option, Some, ap, length-set, drop, [], slice_get}
-use Rattle.spa.specs.declared.TheConstants.{RANKS, PLACES}
+use Rattle.spa.specs.declared.TheConstants.{RANKS, COMPONENTS}
 use Rattle.spa.specs.Shape.{Shape, list_of, choice_at, IsPlaceOf}
 use Rattle.spa.specs.Matching.{Pair, rank, rank_in}
 use Rattle.spa.proofs.OneMore.{one_at_most, one_more}
@@ -17,7 +17,7 @@ use Rattle.solver.proofs.session.ranked.Goals as goal
 use Rattle.solver.proofs.session.ranked.Goals.{in-Some, in_default}
 
 -- a student's place is one of a list of at most RANKS
-placed_within : {aim : Aim} {students : ℕ} (v : Seen (Places PLACES)) (s k : ℕ) → IsNetworkKept aim v students → HasPlaces (shape_of v) v.places → slice_get v.places s ≡ Some (Some k) → k - 1 < RANKS
+placed_within : {aim : Aim} {students : ℕ} (v : Seen (Places COMPONENTS)) (s k : ℕ) → IsNetworkKept aim v students → HasPlaces (shape_of v) v.places → slice_get v.places s ≡ Some (Some k) → k - 1 < RANKS
 placed_within v s k kept places is =
     let inside = places.in_list s k is in
     let short : length (list_of (shape_of v) s) ≤ RANKS = list_short (shape_of v) kept.sound s in

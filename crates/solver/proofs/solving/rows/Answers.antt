@@ -1,7 +1,7 @@
 use Rattle.std.proofs.Common.{◌≡◌, ◌≤◌, ◌∙◌, sym, subst, arith, ℕ, get_or}
 use Rattle.spa.specs.Places.{Places, lex_ops}
 use Rattle.std.proofs.lemmas.List.{get_or_default}
-use Rattle.spa.specs.declared.TheConstants.{PLACES}
+use Rattle.spa.specs.declared.TheConstants.{COMPONENTS}
 use Rattle.network.specs.declared.TheConstants.{LARGEST_PRICE}
 use Rattle.solver.proofs.RowsOfWorths.{rows_more, all_rows}
 use Rattle.solver.proofs.solving.rows.Goals as goal
@@ -12,8 +12,8 @@ loop-worth-preserved c =
     let e = c.loop-worth.invariant.each in
     let grown = c.in_ok-push.ensures.items in
     let len = c.in_ok-push.ensures.len in
-    let w : Places PLACES = c.worth-item.result in
-    let here : get_or c.args.worths.now m (lex_ops PLACES).zero ≡ w = get_or_default c.args.worths.now m (lex_ops PLACES).zero w c.loop-worth-test.true ∙ sym c.worth-item.is in
+    let w : Places COMPONENTS = c.worth-item.result in
+    let here : get_or c.args.worths.now m (lex_ops COMPONENTS).zero ≡ w = get_or_default c.args.worths.now m (lex_ops COMPONENTS).zero w c.loop-worth-test.true ∙ sym c.worth-item.is in
     record {
       each = omega (arith, e, len);
       same = rw grown (λ n t h low. rows_more c.args.aim c.loop-worth.rows.items c.args.worths.now c.numbers.result w m e c.loop-worth.invariant.same here c.numbers.ensures n t h low);
@@ -22,9 +22,9 @@ loop-worth-preserved c =
 pub numbers-requires : goal.numbers-requires
 numbers-requires c =
     let m : ℕ = c.loop-worth.worth-index in
-    let w : Places PLACES = c.worth-item.result in
-    let here : get_or c.args.worths.now m (lex_ops PLACES).zero ≡ w = get_or_default c.args.worths.now m (lex_ops PLACES).zero w c.loop-worth-test.true ∙ sym c.worth-item.is in
-    let s = subst (λ (x : Places PLACES). (lex_ops PLACES).span x ≤ LARGEST_PRICE) here (c.requires m) in
+    let w : Places COMPONENTS = c.worth-item.result in
+    let here : get_or c.args.worths.now m (lex_ops COMPONENTS).zero ≡ w = get_or_default c.args.worths.now m (lex_ops COMPONENTS).zero w c.loop-worth-test.true ∙ sym c.worth-item.is in
+    let s = subst (λ (x : Places COMPONENTS). (lex_ops COMPONENTS).span x ≤ LARGEST_PRICE) here (c.requires m) in
     omega (arith, s)
 
 pub returns : goal.returns

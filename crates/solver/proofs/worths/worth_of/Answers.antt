@@ -1,5 +1,5 @@
 use Rattle.std.proofs.Common.{arith}
-use Rattle.spa.specs.declared.TheConstants.{PLACES}
+use Rattle.spa.specs.declared.TheConstants.{COMPONENTS}
 use Rattle.spa.specs.Inside.Places.{places_of_same}
 use Rattle.solver.proofs.WorthRows.{greedy_row, generous_row}
 use Rattle.solver.proofs.worths.worth_of.Goals as goal
@@ -8,6 +8,6 @@ use Rattle.solver.proofs.worths.worth_of.Goals.{in-Greedy, in-Generous}
 pub returns : goal.returns
 returns c =
     elim c.match-aim.branch [
-      | in-Greedy w ↦ rw (w.row-is, w.in-Greedy.is) (places_of_same PLACES _ _ (λ t h. greedy_row c.args.rank t (omega arith) (omega arith)))
-      | in-Generous w ↦ rw (w.row-is, w.in-Generous.is) (places_of_same PLACES _ _ (λ t h. generous_row c.args.rank t (omega arith) (omega arith) h))
+      | in-Greedy w ↦ rw (w.row-is, w.in-Greedy.is) (places_of_same COMPONENTS _ _ (λ t h. greedy_row c.args.rank t (omega arith) (omega arith)))
+      | in-Generous w ↦ rw (w.row-is, w.in-Generous.is) (places_of_same COMPONENTS _ _ (λ t h. generous_row c.args.rank t (omega arith) (omega arith) h))
     ]

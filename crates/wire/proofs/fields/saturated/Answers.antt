@@ -5,12 +5,12 @@ use Rattle.std.specs.Str.Parse.{digits_value}
 use Rattle.std.proofs.lemmas.List.Folds.{list_all_at}
 use Rattle.std.proofs.lemmas.Int.Digits.{digits_value_more}
 use Rattle.std.proofs.lemmas.Bool.Decides.{nat_tests}
-use Rattle.wire.specs.declared.TheConstants.{MOST_BODY_BYTES}
+use Rattle.wire.specs.declared.TheConstants.{MAX_BODY_BYTES}
 use Rattle.wire.specs.Messages.{is_number}
 use Rattle.wire.proofs.fields.saturated.Goals as goal
 
 -- a step of a number that is cut off at the limit
-saturates : (x y d e t : ℕ) → y ≡ x * 10 + d → d ≡ e → t ≡ min x (MOST_BODY_BYTES + 1) → min (t * 10 + e) (MOST_BODY_BYTES + 1) ≡ min y (MOST_BODY_BYTES + 1)
+saturates : (x y d e t : ℕ) → y ≡ x * 10 + d → d ≡ e → t ≡ min x (MAX_BODY_BYTES + 1) → min (t * 10 + e) (MAX_BODY_BYTES + 1) ≡ min y (MAX_BODY_BYTES + 1)
 saturates x y d e t p q f = omega arith
 
 -- the value of a digit
@@ -39,5 +39,5 @@ loop-digit-preserved c =
     let i = c.loop-digit.digit-index in
     let more : digits_value 10 (take (i + 1) v) ≡ digits_value 10 (take i v) * 10 + digit_value (get_or v i 0) = digits_value_more 10 v i c.loop-digit-test.true in
     let d : digit_value (get_or v i 0) ≡ get_or v i 0 - 48 = digit_of (get_or v i 0) (digit_at v i c.loop-digit-test.true c.requires) in
-    let stepped : min (c.loop-digit.total * 10 + (get_or v i 0 - 48)) (MOST_BODY_BYTES + 1) ≡ min (digits_value 10 (take (i + 1) v)) (MOST_BODY_BYTES + 1)
+    let stepped : min (c.loop-digit.total * 10 + (get_or v i 0 - 48)) (MAX_BODY_BYTES + 1) ≡ min (digits_value 10 (take (i + 1) v)) (MAX_BODY_BYTES + 1)
     = saturates (digits_value 10 (take i v)) (digits_value 10 (take (i + 1) v)) (digit_value (get_or v i 0)) (get_or v i 0 - 48) c.loop-digit.total more d c.loop-digit.invariant in cc

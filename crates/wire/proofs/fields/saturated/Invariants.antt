@@ -1,7 +1,7 @@
 use Rattle.std.proofs.Common.{◌≡◌, ◌+◌, min, take}
 use Rattle.std.specs.Str.Parse.{digits_value}
-use Rattle.wire.specs.declared.TheConstants.{MOST_BODY_BYTES}
+use Rattle.wire.specs.declared.TheConstants.{MAX_BODY_BYTES}
 use Rattle.wire.proofs.fields.saturated.Given as goal
 
 abbrev pub invariant-loop-digit : goal.invariant-loop-digit
-invariant-loop-digit l = l.total ≡ min (digits_value 10 (take l.digit-index l.value)) (MOST_BODY_BYTES + 1)
+invariant-loop-digit l = l.total ≡ min (digits_value 10 (take l.digit-index l.value)) (MAX_BODY_BYTES + 1)

@@ -6,7 +6,7 @@ use Rattle.httparse.specs.declared.spans.RequestSpans.{RequestSpans}
 use Rattle.httparse.specs.Grammar.{HasNoRequest, MayBecomeRequest}
 use Rattle.httparse.specs.Outcome.{OnPartial}
 use Rattle.httparse.specs.Spans.{RequestExceeds}
-use Rattle.wire.specs.declared.TheConstants.{MOST_HEAD_BYTES}
+use Rattle.wire.specs.declared.TheConstants.{MAX_HEAD_BYTES}
 use Rattle.wire.specs.Messages.{IsMalformed}
 use Rattle.wire.proofs.Windows.{may_be_well_formed, has_room}
 use Rattle.wire.proofs.front.find_head.Goals as goal
@@ -27,7 +27,7 @@ returns-in-Partial c =
     missing c.args.window.now c.in-Ok.status c.in-Partial.is c.in-Ok.ensures.partial c.in-Ok.ensures.unfinished
 
 -- the parser has room for all fields of a window
-full : (w : List ℕ) (room : ℕ) → room ≡ 2800 → length w ≤ MOST_HEAD_BYTES → RequestExceeds room w → ⊥
+full : (w : List ℕ) (room : ℕ) → room ≡ 2800 → length w ≤ MAX_HEAD_BYTES → RequestExceeds room w → ⊥
 full w room e short x = has_room w short (subst (λ (n : ℕ). RequestExceeds n w) e x)
 
 pub returns-in-TooManyHeaders : goal.returns-in-TooManyHeaders

@@ -3,7 +3,7 @@ use Rattle.std.proofs.lemmas.List.{take_min, length-take}
 use Rattle.httparse.specs.Spans.{header_bytes}
 use Rattle.httparse.specs.declared.spans.HeaderSpan.{HeaderSpan}
 use Rattle.httparse.specs.declared.spans.RequestSpans.{RequestSpans}
-use Rattle.wire.specs.declared.TheConstants.{MOST_HEAD_BYTES, MOST_BODY_BYTES}
+use Rattle.wire.specs.declared.TheConstants.{MAX_HEAD_BYTES, MAX_BODY_BYTES}
 use Rattle.wire.specs.declared.fields.Framing.{Framing}
 use Rattle.wire.specs.declared.fields.Framing.TheVariants.{Length, Wrong, Long}
 use Rattle.wire.specs.declared.front.Head.{Head}
@@ -15,23 +15,23 @@ use Rattle.wire.proofs.WholeStream.{framing_read, framed_stays, whole_message, c
 use Rattle.wire.proofs.front.judge.Goals as goal
 
 -- the code's window is the stream's
-cut_is_window : (n : ℕ) (buf : List ℕ) → n ≡ min MOST_HEAD_BYTES (length buf) → take n buf ≡ window buf
-cut_is_window n buf e = ap (λ (k : ℕ). take k buf) e ∙ take_min MOST_HEAD_BYTES buf
+cut_is_window : (n : ℕ) (buf : List ℕ) → n ≡ min MAX_HEAD_BYTES (length buf) → take n buf ≡ window buf
+cut_is_window n buf e = ap (λ (k : ℕ). take k buf) e ∙ take_min MAX_HEAD_BYTES buf
 
 -- what was found in the cut was found in the window
-found_in : (n : ℕ) (buf : List ℕ) (headers : List HeaderSpan) (head : Head) → n ≡ min MOST_HEAD_BYTES (length buf)
+found_in : (n : ℕ) (buf : List ℕ) (headers : List HeaderSpan) (head : Head) → n ≡ min MAX_HEAD_BYTES (length buf)
     → FindsHead (take n buf) headers head → FindsHead (window buf) headers head
 found_in n buf headers head e f = subst (λ (w : List ℕ). FindsHead w headers head) (cut_is_window n buf e) f
 
 -- what the cut says of the body, the window says
-said_in : (n : ℕ) (buf : List ℕ) (headers : List HeaderSpan) (spans : RequestSpans) (f : Framing) → n ≡ min MOST_HEAD_BYTES (length buf)
+said_in : (n : ℕ) (buf : List ℕ) (headers : List HeaderSpan) (spans : RequestSpans) (f : Framing) → n ≡ min MAX_HEAD_BYTES (length buf)
     → f ≡ framing_of spans.version (map (header_bytes (take n buf)) (take spans.headers headers))
     → f ≡ framing_of spans.version (map (header_bytes (window buf)) (take spans.headers headers))
 said_in n buf headers spans f e s =
     subst (λ (w : List ℕ). f ≡ framing_of spans.version (map (header_bytes w) (take spans.headers headers))) (cut_is_window n buf e) s
 
 -- a head of which this is said stands in the stream
-framed : (n : ℕ) (buf more : List ℕ) (headers : List HeaderSpan) (spans : RequestSpans) (f : Framing) → n ≡ min MOST_HEAD_BYTES (length buf)
+framed : (n : ℕ) (buf more : List ℕ) (headers : List HeaderSpan) (spans : RequestSpans) (f : Framing) → n ≡ min MAX_HEAD_BYTES (length buf)
     → FindsHead (take n buf) headers (Found spans)
     → f ≡ framing_of spans.version (map (header_bytes (take n buf)) (take spans.headers headers))
     → HeadFramed (buf ++ more) f
@@ -48,10 +48,10 @@ returns-in-Long c more =
     inl (framed c.min.result c.args.buf.now more c.find_head.new.headers c.in-Found.spans Long c.min.ensures c.in-Found.ensures c.in-Long.ensures.value)
 
 -- the body has not come whole
-cut_short : (n : ℕ) (buf : List ℕ) (headers : List HeaderSpan) (spans : RequestSpans) (body : ℕ) → n ≡ min MOST_HEAD_BYTES (length buf)
+cut_short : (n : ℕ) (buf : List ℕ) (headers : List HeaderSpan) (spans : RequestSpans) (body : ℕ) → n ≡ min MAX_HEAD_BYTES (length buf)
     → FindsHead (take n buf) headers (Found spans)
     → Length body ≡ framing_of spans.version (map (header_bytes (take n buf)) (take spans.headers headers))
-    → body ≤ MOST_BODY_BYTES → length buf < spans.len + body → Judges buf Open
+    → body ≤ MAX_BODY_BYTES → length buf < spans.len + body → Judges buf Open
 cut_short n buf headers spans body e found said small cut =
     let h = found_in n buf headers (Found spans) e found in
     cut_message buf headers spans h.0 body h.1 h.2 (framing_read (window buf) headers spans h.0 (Length body) h.1 (said_in n buf headers spans (Length body) e said)) small cut
@@ -62,7 +62,7 @@ returns-then-buf-spans c =
     c.in-Length.ensures.small (omega (arith, c.if-buf-spans.true))
 
 -- the message has come whole
-complete : (n : ℕ) (buf : List ℕ) (headers : List HeaderSpan) (spans : RequestSpans) (body : ℕ) → n ≡ min MOST_HEAD_BYTES (length buf)
+complete : (n : ℕ) (buf : List ℕ) (headers : List HeaderSpan) (spans : RequestSpans) (body : ℕ) → n ≡ min MAX_HEAD_BYTES (length buf)
     → FindsHead (take n buf) headers (Found spans)
     → Length body ≡ framing_of spans.version (map (header_bytes (take n buf)) (take spans.headers headers))
     → spans.len + body ≤ length buf → Judges buf (Whole (record { method = spans.method; target = spans.path; head = spans.len; body = body }))
@@ -84,12 +84,12 @@ returns-in-Malformed c more =
     let f = found_in c.min.result c.args.buf.now c.find_head.new.headers Malformed c.min.ensures c.in-Malformed.ensures in
     malformed_message c.args.buf.now f.0 f.1 more
 
-pub returns-then-buf-lt-MOST_HEAD_BYTES : goal.returns-then-buf-lt-MOST_HEAD_BYTES
-returns-then-buf-lt-MOST_HEAD_BYTES c =
+pub returns-then-buf-lt-MAX_HEAD_BYTES : goal.returns-then-buf-lt-MAX_HEAD_BYTES
+returns-then-buf-lt-MAX_HEAD_BYTES c =
     let f = found_in c.min.result c.args.buf.now c.find_head.new.headers Missing c.min.ensures c.in-Missing.ensures in
-    open_message c.args.buf.now f.0 f.1 c.if-buf-lt-MOST_HEAD_BYTES.true
+    open_message c.args.buf.now f.0 f.1 c.if-buf-lt-MAX_HEAD_BYTES.true
 
-pub returns-else-buf-lt-MOST_HEAD_BYTES : goal.returns-else-buf-lt-MOST_HEAD_BYTES
-returns-else-buf-lt-MOST_HEAD_BYTES c more =
+pub returns-else-buf-lt-MAX_HEAD_BYTES : goal.returns-else-buf-lt-MAX_HEAD_BYTES
+returns-else-buf-lt-MAX_HEAD_BYTES c more =
     let f = found_in c.min.result c.args.buf.now c.find_head.new.headers Missing c.min.ensures c.in-Missing.ensures in
-    long_message c.args.buf.now f.0 f.1 c.if-buf-lt-MOST_HEAD_BYTES.false more
+    long_message c.args.buf.now f.0 f.1 c.if-buf-lt-MAX_HEAD_BYTES.false more

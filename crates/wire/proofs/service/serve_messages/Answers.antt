@@ -1,5 +1,5 @@
 use Rattle.std.proofs.Common.{◌≡◌, ◌<◌, ℕ, ◌+◌, ◌-◌, ◌^◌, List, [], Option, Some, IfSome, refl, sym, subst, arith}
-use Rattle.wire.specs.declared.TheConstants.{MOST_MESSAGES}
+use Rattle.wire.specs.declared.TheConstants.{MAX_MESSAGES}
 use Rattle.wire.specs.declared.outcome.End.{End}
 use Rattle.wire.specs.declared.outcome.End.TheVariants.{Hundred}
 use Rattle.wire.specs.declared.outcome.Served.{Served}
@@ -56,7 +56,7 @@ returns-in_default-clause-served g c = nothing_served g.H.Handler.step g.H.Handl
 
 -- a hundred messages were answered
 hundred : {S : Type 0} (step : S → MessageText → List ℕ → S → Type 0) (refusal : End → List ℕ) (before now : S) (left0 w0 left w : Option (List ℕ)) (rest : List ℕ) (count : ℕ)
-    → SoFar step before left0 w0 left w rest count now → count ≡ MOST_MESSAGES → ServedTo step refusal before left0 w0 left w (record { answered = MOST_MESSAGES; end = Hundred }) now
+    → SoFar step before left0 w0 left w rest count now → count ≡ MAX_MESSAGES → ServedTo step refusal before left0 w0 left w (record { answered = MAX_MESSAGES; end = Hundred }) now
 hundred step refusal before now left0 w0 left w rest count so e =
     hundred_here step refusal before now left0 w0 left w rest (subst (λ (k : ℕ). SoFar step before left0 w0 left w rest k now) e so)
 

@@ -1,6 +1,6 @@
 use Rattle.std.proofs.Common.{◌≡◌, ℕ, List, ◌∷◌, [], ◌++◌, length, sym, ap, subst, ◌∙◌}
 use Rattle.std.specs.Prelude.{◌&&◌, not, nat_le, false}
-use Rattle.rolls.specs.declared.TheConstants.{MOST_IMPORTS}
+use Rattle.rolls.specs.declared.TheConstants.{MAX_IMPORTS}
 use Rattle.rolls.specs.declared.import.Import.{Import}
 use Rattle.rolls.specs.declared.request.Reply.TheVariants as reply
 use Rattle.row_data.specs.declared.row.Change.TheVariants.{Add}
@@ -13,7 +13,7 @@ use Rattle.office.proofs.office.Office.import_new.Goals as goal
 pub keep-requires-clause-room : goal.keep-requires-clause-room
 keep-requires-clause-room c =
     let mid : State = c.make_all.new.self in
-    subst (λ (d : List ℕ). (not (has_import mid d) && nat_le MOST_IMPORTS (length mid.imports)) ≡ false) (sym (c.code_of.ensures ∙ c.as_str.ensures))
+    subst (λ (d : List ℕ). (not (has_import mid d) && nat_le MAX_IMPORTS (length mid.imports)) ≡ false) (sym (c.code_of.ensures ∙ c.as_str.ensures))
     (still_room c.args.id c.args.kind c.args.bytes c.args.rows.items c.args.self.now c.requires.allowed c.requires.free mid c.in_ok-changes.changes.items c.in_ok-changes.ensures.ok)
 
 -- the import that is made is the one that is asked for

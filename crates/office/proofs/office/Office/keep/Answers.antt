@@ -1,6 +1,6 @@
 use Rattle.std.proofs.Common.{◌≡◌, sym, subst}
 use Rattle.std.specs.Prelude.{◌&&◌, not, nat_le, false, List, length}
-use Rattle.rolls.specs.declared.TheConstants.{MOST_IMPORTS}
+use Rattle.rolls.specs.declared.TheConstants.{MAX_IMPORTS}
 use Rattle.rolls.specs.declared.import.Import.{Import}
 use Rattle.rolls.specs.State.{State, has_import}
 use Rattle.rolls.specs.Fit.{IsFit}
@@ -16,5 +16,5 @@ invariant_of-self c =
 pub invariant_of-self-2 : goal.invariant_of-self-2
 invariant_of-self-2 c =
     let inside : State = state_of c.self.inside in
-    let room = subst (λ (o : State). (not (has_import o c.args.import.id) && nat_le MOST_IMPORTS (length o.imports)) ≡ false) (sym c.self.view_is) c.requires.room in
+    let room = subst (λ (o : State). (not (has_import o c.args.import.id) && nat_le MAX_IMPORTS (length o.imports)) ≡ false) (sym c.self.view_is) c.requires.room in
     subst (λ (is : List Import). IsFit (record inside { imports = is })) (sym c.in_ok-put.ensures.ok) (fit_with_import c.args.import inside c.self.invariant c.requires.fits room)

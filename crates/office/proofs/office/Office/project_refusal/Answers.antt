@@ -1,7 +1,7 @@
 use Rattle.std.proofs.Common.{◌≡◌, Bool, true, false, not, Option, Some, refl, sym, ap, ◌∙◌}
 use Rattle.std.specs.Prelude.{if◌then◌else◌, is_some}
 use Rattle.std.proofs.lemmas.Bool.{le-ltb}
-use Rattle.spa.specs.declared.TheConstants.{MOST_PLACES}
+use Rattle.spa.specs.declared.TheConstants.{MAX_QUOTA}
 use Rattle.rolls.specs.declared.refusal.Refusal.{Refusal}
 use Rattle.rolls.specs.declared.refusal.Refusal.TheVariants as no
 use Rattle.rolls.specs.State.{State, supervisor_of}
@@ -15,5 +15,5 @@ unknown code supervisor label above has others c s l a h = rw (sym c, sym s, sym
 
 pub returns-then-is_none : goal.returns-then-is_none
 returns-then-is_none c =
-    unknown _ _ _ _ _ _ c.if-not-is_code_text.ensures c.if-not-is_code_text-2.ensures c.if-not-is_label_text.ensures (le-ltb MOST_PLACES c.args.quota c.if-quota-gt-MOST_PLACES.false)
+    unknown _ _ _ _ _ _ c.if-not-is_code_text.ensures c.if-not-is_code_text-2.ensures c.if-not-is_label_text.ensures (le-ltb MAX_QUOTA c.args.quota c.if-quota-gt-MAX_QUOTA.false)
     (ap is_some (ap (λ (o : State). supervisor_of o c.args.supervisor.now) (sym c.self.view_is) ∙ sym c.by_code.ensures) ∙ sym (lent_is_there c.by_code.result) ∙ c.if-is_none.ensures)

@@ -1,9 +1,9 @@
-use Rattle.spa.specs.declared.TheConstants.{MOST_PROJECTS, MOST_SUPERVISORS}
+use Rattle.spa.specs.declared.TheConstants.{MAX_PROJECTS, MAX_SUPERVISORS}
 use Rattle.spa.proofs.OneMore.{none_yet}
 use Rattle.spa.proofs.counts.Counts.new.Goals as goal
 
 pub returns-clause-projects : goal.returns-clause-projects
-returns-clause-projects c = none_yet MOST_PROJECTS
+returns-clause-projects c = none_yet MAX_PROJECTS
 
 pub returns-clause-supervisors : goal.returns-clause-supervisors
-returns-clause-supervisors c = none_yet MOST_SUPERVISORS
+returns-clause-supervisors c = none_yet MAX_SUPERVISORS

@@ -1,5 +1,5 @@
 use Rattle.std.proofs.Common.{◌≡◌, ◌-◌, false, length}
-use Rattle.wire.specs.declared.TheConstants.{MOST_MESSAGE_BYTES}
+use Rattle.wire.specs.declared.TheConstants.{MAX_MESSAGE_BYTES}
 use Rattle.wire.specs.Inside.Taken.{Grows}
 use Rattle.wire.proofs.window.Window.read_next.Given as goal
 
@@ -11,4 +11,4 @@ invariant-reading g l = record {
 }
 
 abbrev pub decreases-reading : goal.decreases-reading
-decreases-reading g l = MOST_MESSAGE_BYTES - length l.self
+decreases-reading g l = MAX_MESSAGE_BYTES - length l.self
