@@ -105,8 +105,9 @@ pub fn play_over<S: Alter + Drop>(
 ) -> Result<(u32, Connection<S>), Fail> {
     match Desk::open(alloc, connection) {
         Ok(mut desk) => {
-            let count = play_rows(alloc, &mut desk, texts, rows)?;
-            Ok((count, desk.into_connection()))
+            let count = play_rows(alloc, &mut desk, texts, rows);
+            let connection = desk.into_connection();
+            Ok((count?, connection))
         }
         Err((refusal, connection)) => {
             if refusal.name() != rows.trim() {

@@ -132,8 +132,9 @@ fn play_over<S: Alter + Drop>(
     (streams, students): (&[Stream], &str),
 ) -> Result<Connection<S>, Fail> {
     let mut desk = desk_over(alloc, connection)?;
-    play_streams(alloc, &mut desk, streams)?;
+    let played = play_streams(alloc, &mut desk, streams);
     let mut connection = desk.into_connection();
+    played?;
     find(&mut connection, students)?;
     Ok(connection)
 }
@@ -162,8 +163,10 @@ fn streams_come_in_pieces_and_break_off(rt: HostRuntime) -> Result<(), Fail> {
 /// Plays the cuts at a desk over tables.
 fn play_cuts_over<S: Alter + Drop>(alloc: Global, connection: Connection<S>) -> Result<(), Fail> {
     let mut desk = desk_over(alloc, connection)?;
-    play_cuts(alloc, &mut desk)?;
-    find(&mut desk.into_connection(), TWO)?;
+    let played = play_cuts(alloc, &mut desk);
+    let mut connection = desk.into_connection();
+    played?;
+    find(&mut connection, TWO)?;
     Ok(())
 }
 

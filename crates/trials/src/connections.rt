@@ -81,16 +81,20 @@ pub(crate) fn answered<S: Alter>(
 /// Two connections: the first sends two puts.
 const TWO: &[u8] = b"connection 1: 2 answers, closed\nconnection 2: 0 answers, closed\n";
 
+/// Whether these are what they are answered.
+fn are_two(answers: &[Vec<u8>]) -> bool {
+    match answers {
+        [first, second] => first.len() == 164 && second.is_empty(),
+        _ => false,
+    }
+}
+
 /// Serves them at a desk.
 fn serve_two<S: Alter>(rt: &HostRuntime, desk: &mut Desk<S>) -> Result<(), Fail> {
     let puts = String::from_str(rt.alloc(), PUTS)?;
     let (told, answers) = answered(rt, desk, &[puts, String::new(rt.alloc())], 2)?;
-    holds(told.as_slice() == TWO, "two connections")?;
-    let are_answers = match answers.as_slice() {
-        [first, second] => first.len() == 164 && second.is_empty(),
-        _ => false,
-    };
-    holds(are_answers, "two answers")
+    let are_served = told.as_slice() == TWO && are_two(&answers);
+    holds(are_served, "two connections")
 }
 
 /// Messages after which nothing is read, how often they come, and what is printed of a client that could send more.
@@ -141,6 +145,15 @@ enum Callers {
     Nobody,
 }
 
+/// Serves them at a desk.
+fn serve_at<S: Alter>(rt: &HostRuntime, desk: &mut Desk<S>, callers: Callers) -> Result<(), Fail> {
+    match callers {
+        Callers::Two => serve_two(rt, desk),
+        Callers::LeftOpen => serve_open(rt, desk),
+        Callers::Nobody => serve_nobody(rt, desk),
+    }
+}
+
 /// Serves them at the desk over new tables.
 fn serve<S: Alter + Drop>(
     rt: &HostRuntime,
@@ -148,11 +161,7 @@ fn serve<S: Alter + Drop>(
     callers: Callers,
 ) -> Result<(), Fail> {
     let mut desk = desk_over(rt.alloc(), connection)?;
-    match callers {
-        Callers::Two => serve_two(rt, &mut desk),
-        Callers::LeftOpen => serve_open(rt, &mut desk),
-        Callers::Nobody => serve_nobody(rt, &mut desk),
-    }
+    serve_at(rt, &mut desk, callers)
 }
 
 #[test]

@@ -52,12 +52,19 @@ fn read<S: Alter>(alloc: Global, desk: &mut Desk<S>) -> Result<(), Fail> {
     holds(is_named(&answer, "Ann"), "another desk")
 }
 
+/// Reads the student at a desk over these tables.
+fn read_again<S: Alter + Drop>(alloc: Global, connection: Connection<S>) -> Result<(), Fail> {
+    let mut again = desk_over(alloc, connection)?;
+    read(alloc, &mut again)
+}
+
 /// Does both over tables.
 fn run_and_read<S: Alter + Drop>(alloc: Global, connection: Connection<S>) -> Result<(), Fail> {
     let mut desk = desk_over(alloc, connection)?;
-    run(alloc, &mut desk)?;
-    let mut again = desk_over(alloc, desk.into_connection())?;
-    read(alloc, &mut again)
+    let ran = run(alloc, &mut desk);
+    let connection = desk.into_connection();
+    ran?;
+    read_again(alloc, connection)
 }
 
 // The student is put, read, and read again by another desk over the same database.

@@ -197,8 +197,9 @@ fn is_made_over<S: Alter + Drop>(
 ) -> Result<(bool, Connection<S>), Fail> {
     match Desk::open(alloc, connection) {
         Ok(mut desk) => {
-            let is_made = is_made(alloc, &mut desk, row)?;
-            Ok((is_made, desk.into_connection()))
+            let is_made = is_made(alloc, &mut desk, row);
+            let connection = desk.into_connection();
+            Ok((is_made?, connection))
         }
         Err((refusal, connection)) => {
             holds(refusal == Refusal::Storage, row.2)?;

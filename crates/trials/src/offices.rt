@@ -56,13 +56,22 @@ fn saved<S: Alter>(store: &mut Store<S>, done: &Done) -> Result<(), Fail> {
     holds(has_student(&loaded), "what is loaded")
 }
 
-/// Applies and saves it over tables.
+/// Applies and saves it.
+fn apply_and_save<S: Alter>(
+    alloc: Global,
+    store: &mut Store<S>,
+    office: &mut Office,
+) -> Result<(), Fail> {
+    let done = applied(alloc, office)?;
+    saved(store, &done)
+}
+
+/// Does the same over tables.
 fn save_over<S: Alter + Drop>(alloc: Global, connection: Connection<S>) -> Result<(), Fail> {
     let Ok((mut store, mut office)) = Store::open(alloc, connection) else {
         return Err(Fail::new("an opening"));
     };
-    let done = applied(alloc, &mut office)?;
-    saved(&mut store, &done)
+    apply_and_save(alloc, &mut store, &mut office)
 }
 
 #[test]

@@ -137,9 +137,12 @@ fn played_without<S: Alter + Drop>(
     refused: u32,
 ) -> Result<Allowed, Fail> {
     let mut desk = desk_of(alloc, connection, row.0)?;
-    let written = written_without(alloc, &mut desk, row.1, refused)?;
+    let written = written_without(alloc, &mut desk, row.1, refused);
     let kept = kept_by(alloc, &mut desk.into_connection())?;
-    Ok(Allowed { written, kept })
+    Ok(Allowed {
+        written: written?,
+        kept,
+    })
 }
 
 /// Returns what may come of a row: first where nothing is refused, last where each request is.
@@ -199,8 +202,9 @@ fn run<S: Alter + Drop>(
     n: u32,
 ) -> Result<bool, Fail> {
     let mut desk = desk_of(alloc, connection, row.0)?;
-    let (got, is_hit) = refused(alloc, &mut desk, row, n)?;
+    let got = refused(alloc, &mut desk, row, n);
     let kept = kept_by(alloc, &mut desk.into_connection())?;
+    let (got, is_hit) = got?;
     holds(is_allowed(all, &got, &kept), row.1)?;
     Ok(is_hit)
 }
@@ -234,8 +238,10 @@ fn run_again<S: Alter + Drop>(
     n: u32,
 ) -> Result<(), Fail> {
     let mut desk = desk_of(alloc, connection, row.0)?;
-    ask_again(alloc, &mut desk, row, (made, none), n)?;
-    let is_kept = keeps(alloc, &mut desk.into_connection(), &made.kept)?;
+    let asked = ask_again(alloc, &mut desk, row, (made, none), n);
+    let mut connection = desk.into_connection();
+    asked?;
+    let is_kept = keeps(alloc, &mut connection, &made.kept)?;
     holds(is_kept, row.1)
 }
 

@@ -70,17 +70,26 @@ fn compare_twelve<S: Alter>(alloc: Global, desk: &mut Desk<S>) -> Result<(), Fai
     Ok(())
 }
 
-/// Does both, each at the desk over tables of its own.
+/// Does one of both.
+fn compare_either<S: Alter>(
+    alloc: Global,
+    desk: &mut Desk<S>,
+    are_twelve: bool,
+) -> Result<(), Fail> {
+    if are_twelve {
+        return compare_twelve(alloc, desk);
+    }
+    compare_steps(alloc, desk)
+}
+
+/// Does one of both, each at the desk over tables of its own.
 fn compare_joined<S: Alter + Drop>(
     alloc: Global,
     connection: Connection<S>,
     are_twelve: bool,
 ) -> Result<(), Fail> {
     let mut desk = desk_over(alloc, connection)?;
-    if are_twelve {
-        return compare_twelve(alloc, &mut desk);
-    }
-    compare_steps(alloc, &mut desk)
+    compare_either(alloc, &mut desk, are_twelve)
 }
 
 #[test]
@@ -189,8 +198,10 @@ fn compare_previews<S: Alter + Drop>(
     exchange: &str,
 ) -> Result<Connection<S>, Fail> {
     let mut other = desk_over(alloc, connection)?;
-    holds(preview_alike(alloc, desk, &mut other)?, exchange)?;
-    Ok(other.into_connection())
+    let is_alike = preview_alike(alloc, desk, &mut other);
+    let connection = other.into_connection();
+    holds(is_alike?, exchange)?;
+    Ok(connection)
 }
 
 /// Plays a line at a desk, and at one that is opened for it over tables of its own, and compares whether a session is cached.
@@ -211,20 +222,20 @@ fn compare_session<S: Alter + Drop>(
     Ok(connection)
 }
 
-/// Plays lines at a desk and next to it.
+/// Plays the lines before these, and these, at a desk and next to it.
 fn compare_lines<S: Alter + Drop>(
     alloc: Global,
     desk: &mut Desk<S>,
     mut other: Connection<S>,
     lines: &str,
-) -> Result<Connection<S>, Fail> {
-    for line in lines.lines() {
+) -> Result<(), Fail> {
+    for line in BEFORE.lines().chain(lines.lines()) {
         other = compare_session(alloc, desk, other, line)?;
     }
-    Ok(other)
+    Ok(())
 }
 
-/// Plays the lines before these, and these, at the desk over tables and next to it.
+/// Plays them at the desk over tables, and next to it.
 fn compare_sessions<S: Alter + Drop>(
     alloc: Global,
     connection: Connection<S>,
@@ -232,9 +243,7 @@ fn compare_sessions<S: Alter + Drop>(
     lines: &str,
 ) -> Result<(), Fail> {
     let mut desk = desk_over(alloc, connection)?;
-    let other = compare_lines(alloc, &mut desk, other, BEFORE)?;
-    compare_lines(alloc, &mut desk, other, lines)?;
-    Ok(())
+    compare_lines(alloc, &mut desk, other, lines)
 }
 
 #[test]
