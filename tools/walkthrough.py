@@ -59,9 +59,9 @@ def compare_rows():
     sheets = [name for name in os.listdir(os.path.join(TOP, folder)) if name.endswith(".csv")]
     wanted = [f"file {name} | " + read(os.path.join(folder, name)).replace("\n", "^n") + "\n" for name in sheets]
     missing = [text for text in wanted if text not in played]
-    rows = re.findall(r"^(spadesk .*?) +\| 0 \| (.*?) ?\|$", played, re.M)
+    rows = re.findall(r"^(spadesk .*?) +\| 0 \| (.*?) ?\| ?(.*)$", played, re.M)
     lines = [(command, told) for command, told in commands if command.startswith("spadesk ") and "&" not in command]
-    if lines != [(words, out.replace("^n", "\n")) for words, out in rows]:
+    if lines != [(words, (err + out).replace("^n", "\n")) for words, out, err in rows]:
         missing.append("the lines of the program as they are shown")
     requests = re.findall(r"(GET|POST) (\S+) +\| \| 200 OK \| (\{.*\})", played)
     for command, told in commands:
