@@ -3,18 +3,25 @@
 
 tools/believed.py CRATE FUNCTION CLAUSE     as: tools/believed.py desk Desk::run run
 tools/believed.py --readme                  compares the figures that README.md names, row by row of "What has to be believed"
+tools/believed.py --page [--check]          writes docs/SPEC.md anew, where each definition stands as in the code; or says what would change
 tools/believed.py --inside                  names the definitions that no public clause cites and that do not stand in specs/Inside/,
                                             and the reverse
 
 A definition is counted once, with the comment above it. The closure follows the names in the clause, and then in each definition, by
 the `use` lines of its file, through the crates of this repository. Types of the program are named apart, and what stands in the
 libraries beneath is counted by name alone.
+
+The page has its own frame: what is outside its blocks stays, and so does the order in them. A block has a file's path and then definitions
+of it. One that is new goes after the last of its file, and one on which nothing rests goes. Whoever wants one elsewhere writes `name :`
+there, on a line of its own. What is named is what the page lacks: a block for a file, or what a name from beneath means.
 """
+import difflib
 import itertools
+import pathlib
 import re
 import sys
 
-from office import listed, read
+from office import TOP, listed, read
 
 FILES = listed("crates/*.antt", "crates/*.rt")
 CRATES = sorted({path.split("/")[1] for path in FILES})
@@ -22,6 +29,11 @@ NAME = r"[^\W\d][\w\-'⁺]*"
 MARKS = r"(?:(?:pattern|unfoldable|abbrev|pub|axiom)\s+)*"
 SIGNATURE = re.compile(rf"^(\s*){MARKS}(?:(record|data)\s+)?({NAME})\s+(?:\{{[^}}]*\}}\s+)*(?::|\(|where)")
 OPENS_RECORD = re.compile(rf"^(\s*){MARKS}(?:record|data)\s+({NAME})")
+# the page, the clause that it is of, a file's part of a block, and an item of the code with its doc
+PAGE, CLAUSE = "docs/SPEC.md", ("desk", "Desk::run", "run")
+PART = re.compile(r"^((?:--|//) (crates/\S+)\n)(.*?)(?=^(--|//) crates/|^```$)", re.M | re.S)
+SHOWN = r"^(?:pub (?:struct|enum|const|fn) )?(\w+)(?=:|\(| \{| :)"
+ITEM = re.compile(r"(?:^ *///.*\n)*(?:^#.*\n)*^pub (?:const (\w+).*;|(?:struct|enum) (\w+).*\n(?:.*\n)*?\})$", re.M)
 
 
 def files(crate, part):
@@ -44,6 +56,27 @@ def uses_of(text, word):
     return brought
 
 
+def definitions(lines):
+    """The text of each definition in these lines, with the comment above it."""
+    found, comment, name, indent = {}, [], None, 0
+    for line in lines:
+        bare = line.strip()
+        begins = OPENS_RECORD.match(line) or SIGNATURE.match(line)
+        depth = len(line) - len(line.lstrip())
+        if not bare or bare.startswith(("use ", "pub use ", "module ")):
+            comment, name = [], None
+        elif bare.startswith("--"):
+            if name is None or depth <= indent:
+                comment, name = comment + [line], None
+        elif begins and (name is None or depth <= indent and not bare.startswith(name + " ")):
+            name, indent = begins.groups()[-1], depth
+            found[name] = comment + [line]
+            comment = []
+        elif name is not None:
+            found[name].append(line)
+    return found
+
+
 class File:
     """A file of definitions: its module, what it brings in, and the text of each definition with the comment above it."""
 
@@ -52,26 +85,7 @@ class File:
         self.path, self.module = path, ".".join(["Rattle", crate, *inside])
         text = read(path)
         self.brought = uses_of(text, "use")
-        self.found = {}
-        self.find(text.split("\n"))
-
-    def find(self, lines):
-        comment, name, indent = [], None, 0
-        for line in lines:
-            bare = line.strip()
-            begins = OPENS_RECORD.match(line) or SIGNATURE.match(line)
-            depth = len(line) - len(line.lstrip())
-            if not bare or bare.startswith(("use ", "pub use ", "module ")):
-                comment, name = [], None
-            elif bare.startswith("--"):
-                if name is None or depth <= indent:
-                    comment, name = comment + [line], None
-            elif begins and (name is None or depth <= indent and not bare.startswith(name + " ")):
-                name, indent = begins.groups()[-1], depth
-                self.found[name] = comment + [line]
-                comment = []
-            elif name is not None:
-                self.found[name].append(line)
+        self.found = definitions(text.split("\n"))
 
 
 class Book:
@@ -155,6 +169,63 @@ def compare():
     sys.exit("README.md is to be mended" if wrong or not rows else 0)
 
 
+def on_page(book):
+    """By file what the page has to show: the clause, the definitions, the types of the program, and the limits."""
+    crate, function, label = CLAUSE
+    clause = f"    ensures {label} {{ {clause_of(*CLAUSE)[0]} }}"
+    path = next(it for it in files(crate, "src") if f"\n    {clause}\n" in read(it))
+    name = function.rpartition("::")[2]
+    wanted = {path: {name: [re.search(rf"pub fn {name}\b.*", read(path))[0], clause]}}
+    for it, name in book.order:
+        wanted.setdefault(it.path, {})[name] = it.found[name]
+    limits = [(module.replace("declared.TheConstants", "declared.lib"), name) for module, name in book.beneath if "TheConstants" in module]
+    for module, name in sorted(limits + [tuple(it.rsplit(".", 1)) for it in book.types]):
+        _, crate, _, _, *inside = module.split(".")
+        path = f"crates/{crate}/src/{'/'.join(inside)}.rt"
+        item = next(it for it in ITEM.finditer(read(path)) if name in it.groups())[0]
+        wanted.setdefault(path, {})[name] = [line for line in item.split("\n") if not line.startswith("#")]
+    return wanted
+
+
+def page(text):
+    """The page with each definition as it stands in the code, and what it lacks."""
+    book = closure(*CLAUSE)
+    wanted, lacks = on_page(book), []
+    parts = []
+    for part in PART.finditer(text):
+        is_code = part[2].endswith(".rt")
+        names = re.findall(SHOWN, part[3], re.M) if is_code else definitions(part[3].split("\n"))
+        parts.append((part[2], [name for name in names if name in wanted.get(part[2], ())]))
+    for path, shown in wanted.items():
+        homes = [names for where, names in parts if where == path]
+        new = [name for name in shown if not any(name in names for names in homes)]
+        lacks += [f"{path}: no block for {', '.join(new)}"] if new and not homes else []
+        if new and homes:
+            homes[-1] += new
+    shown = iter(parts)
+
+    def renewed(part):
+        path, names = next(shown)
+        return "\n".join([part[1], *("\n".join(wanted[path][name]) + "\n" for name in names)]) + ("\n" if part[4] else "")
+
+    frame = re.sub(r"^```.*?^```$", "", text, flags=re.M | re.S)
+    beneath = sorted({name for module, name in book.beneath if "TheConstants" not in module})
+    lacks += [f"{PAGE}: nothing says what {name} is" for name in beneath if f"`{name}`" not in frame]
+    return PART.sub(renewed, text), lacks
+
+
+def write_page(is_check):
+    """Writes the page, or only prints where it differs; gives whether it lacks something."""
+    text = read(PAGE)
+    new, lacks = page(text)
+    if is_check:
+        lacks += difflib.unified_diff(text.split("\n"), new.split("\n"), PAGE, "as it would be written", lineterm="", n=0)
+    else:
+        pathlib.Path(TOP, PAGE).write_text(new, encoding="utf-8")
+    print("\n".join(lacks) or f"{PAGE} has what {CLAUSE[1]} {CLAUSE[2]} rests on")
+    return 1 if lacks else 0
+
+
 def exported(crate):
     """What the root of a crate gives out: names, and modules."""
     text = "".join(read(path) for path in files(crate, "src") if path.endswith("/src/lib.rt"))
@@ -216,11 +287,18 @@ def parted():
     sys.exit(1 if wrong else 0)
 
 
-if sys.argv[1:] == ["--readme"]:
-    compare()
-elif sys.argv[1:] == ["--inside"]:
-    parted()
-elif len(sys.argv) == 4:
-    show(*sys.argv[1:])
-else:
-    sys.exit(__doc__)
+def main(*words):
+    if words == ("--readme",):
+        compare()
+    elif words in (("--page",), ("--page", "--check")):
+        sys.exit(write_page("--check" in words))
+    elif words == ("--inside",):
+        parted()
+    elif len(words) == 3:
+        show(*words)
+    else:
+        sys.exit(__doc__)
+
+
+if __name__ == "__main__":
+    main(*sys.argv[1:])

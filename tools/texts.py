@@ -11,9 +11,9 @@ there and to a heading that it has, an anchor in backquotes to a heading of some
 an underscore or `::` does, and one with a capital inside that the code has.
 
 A page can be read: no line is above 140 columns, no sentence above 45 words, no cell of a table above 30 words, and no word stands for
-two things. A page is a text in Markdown outside crates. Commands and texts in code are not sentences. Comments too have no line above 140
-columns, no word for two things, and no word of the house where the field has one (`WORDS`); and the doc of a function that returns
-something begins with a verb.
+two things. A page is a text in Markdown outside crates. Commands and texts in code are not sentences, and definitions that a page shows
+are as wide as in their files. Comments too have no line above 140 columns, no word for two things, and no word of the house where the field
+has one (`WORDS`); and the doc of a function that returns something begins with a verb.
 
 docs/PROOF.md names a lemma, a definition or a law in backquotes, and then the file in which it stands: `settles`
 (`network/proofs/Settle.antt`); several names in a row have one file. Each must stand there. Above each lemma, which is what stands in
@@ -181,8 +181,9 @@ def parts(text):
 
 
 def unreadable(name, text):
-    """What is hard to read in a page."""
-    for number, line in enumerate(text.splitlines(), 1):
+    """What is hard to read in a page; definitions that it shows are as wide as in their files."""
+    lines = re.sub(r"^```antt\n.*?^```$", lambda block: "\n" * block[0].count("\n"), text, flags=re.M | re.S).splitlines()
+    for number, line in enumerate(lines, 1):
         if len(line) > COLUMNS:
             yield f"{name}:{number}: {len(line)} columns"
     for number, part, most in parts(text):

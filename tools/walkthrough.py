@@ -3,7 +3,7 @@
 
 tools/walkthrough.py SPADESK [--write] [TEXT..]     needs curl, jq and sqlite3
 tools/walkthrough.py                                only compares the rows of the gate with the texts of the example, and says what is
-                                                    wrong in comments and pages (tools/texts.py)
+                                                    wrong in comments and pages (tools/texts.py, tools/believed.py)
 
 Each TEXT is one of WALKTHROUGHS, and without any all of them are run. The commands are the lines after a `$` in its console blocks;
 those of `rt`, which prove or build, stand in other blocks and are not run. Without any TEXT the snippet for nginx is tried too, and
@@ -26,6 +26,7 @@ import sys
 import tempfile
 import time
 
+import believed
 import clients
 import nginx
 import texts
@@ -171,7 +172,7 @@ def main(program=None, *words):
     is_written = "--write" in words
     if not is_written:
         compare_rows()
-        if texts.main():
+        if texts.main() or believed.write_page(True):
             sys.exit(1)
     if program is None:
         return
