@@ -159,13 +159,17 @@ def show(crate, function, label):
 
 
 def compare():
-    rows = re.findall(r"^\|[^|]*\| `([\w:]+)` \*(\S+)\* of `(\w+)` \| ([\d,]+) \| ([\d,]+) \|$", read("README.md"), re.M)
-    wrong = 0
+    row = r"^\|[^|]*\| `([\w:]+)` \*(\S+)\* of `(\w+)` " + r"\| ([\d,]+) " * 3 + r"\|$"
+    rows = re.findall(row, read("README.md"), re.M)
+    wrong, above = 0, set()
     for function, label, crate, *told in rows:
-        there = [f"{n:,}" for n in figures(closure(crate, function, label))]
+        book = closure(crate, function, label)
+        more = {(it.path, name): len(it.found[name]) for it, name in book.order}
+        there = [f"{n:,}" for n in (*figures(book), sum(n for one, n in more.items() if one not in above))]
+        above |= more.keys()
         wrong += told != there
         differs = "" if told == there else f"; README says {', '.join(told)}"
-        print(f"{function} {label}: {there[0]} definitions, {there[1]} lines{differs}")
+        print(f"{function} {label}: {there[0]} definitions, {there[1]} lines, {there[2]} of them in no row above{differs}")
     sys.exit("README.md is to be mended" if wrong or not rows else 0)
 
 
