@@ -87,7 +87,8 @@ def rows(name, aim, groups):
     lines = (f"{at},{' '.join(code[project] for project in chosen)}^n" for at, chosen in zip(student, lists))
     yield "file lists.csv | student,choices^n" + "".join(lines)
     for number, (kind, count) in enumerate((("supervisors", len(owner)), ("projects", len(code)), ("students", len(student)))):
-        yield f"spadesk import {name}.db {kind} I{number} {kind}.csv | 0 | rows {count}^n |"
+        new = "" if number else f" new {name}.db^n"
+        yield f"spadesk import {name}.db {kind} I{number} {kind}.csv | 0 | rows {count}^n |{new}"
     yield f"spadesk open-round {name}.db {aim} | 0 | round 1^n |"
     yield f"spadesk import {name}.db lists I4 lists.csv | 0 | rows {len(lists)}^n |"
     yield f"spadesk close-round {name}.db | 0 | round 1 {best} |"
