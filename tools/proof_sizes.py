@@ -1,5 +1,5 @@
 #!/usr/bin/env python3
-"""Tells what the proof of each function weighs: the bytes that the prover keeps of it.
+"""Prints what the proof of each function weighs: the bytes that the prover keeps of it.
 
     tools/proof_sizes.py CRATE [COUNT]    after `rt check` in the crate's folder
 

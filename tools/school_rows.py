@@ -40,7 +40,7 @@ def label(kind, at):
     return f"{kind} {FIRST + at} ".ljust(200, "n")
 
 
-class Books:
+class PersistentOffice:
     """The rolls and the rounds of a school, by position."""
 
     def __init__(self):
@@ -166,7 +166,7 @@ class Rows:
     """The rows, and the books that they are about."""
 
     def __init__(self):
-        self.books, self.lines, self.imports = Books(), [], 0
+        self.books, self.lines, self.imports = PersistentOffice(), [], 0
 
     def add(self, *lines):
         self.lines += lines
@@ -321,7 +321,7 @@ class Rows:
         sql += insert("placement", f"('{names['student']}',{ROUNDS},'{formula('project', 1, 350, 400, 0)}',8)", PROJECTS)
         sql += insert("import", f"('{names['import']}','students',x'636F64652C6E616D65',0)", IMPORTS)
         self.add(f"file full.sql | {sql}")
-        self.books = Books()
+        self.books = PersistentOffice()
         self.books.projects = [1] * PROJECTS
         lists = {at: [(at + 50 * k) % PROJECTS for k in range(8)] for at in range(STUDENTS)}
         self.books.aims = ["greedy"] * ROUNDS

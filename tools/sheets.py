@@ -1,5 +1,5 @@
 #!/usr/bin/env python3
-"""Tells every row of a sheet that the office would refuse, with the words of the guide.
+"""Prints every row of a sheet that the office would refuse, with the words of the guide.
 
 tools/sheets.py SPADESK DB KIND FILE     KIND is supervisors, projects, students or lists
 

@@ -68,6 +68,26 @@ WORDS = [
     (r"\bkept (?:session|import|number)s?\b|\b(?:session|import) (?:that )?is kept\b", "say cached, or stored of an import", BOTH),
     (r"\bturns? (?:(?:the|their|its|no) )?rows?\b", "say transform", BOTH),
 ]
+# sentences that stood here and were not so, and what is so
+UNTRUE = {
+    "Sessions and audits stay on `network`": "an audit solves, by the search first",
+    "20 in nine files": "they stand in ten",
+    "After any of them office and tables are as before.": "after refusal 2 a crash may still leave the change",
+    "Nothing here chooses a matching; `network` and `solver` do": "the search chooses it",
+    "ables, each told once": "columns stand in code and definition",
+    "A further table is a variant of `Table`, its shape and its texts in": "it stands at more places: docs/ARCHITECTURE.md",
+    "A further table of rows is one of `TABLES` more;": "the editions that have it and lack it are named too",
+    "that need a loop": "some of them need none",
+    "in the definitions also its number and its CHECK": "the number is in the model of rows",
+    "a change of the tables is always of one row": "one takes out many",
+    "2026-11-27: what a request means is one record": "its changes were taken out of it",
+    "one that takes a list away": "placements too",
+    "each row by its key, and a list or the placements of a round": "those are taken out so, not written",
+    "a page of Python": "it is 150 lines",
+    "`fit_law` of `step_laws`": "no code calls it",
+    "Between students with equal claims a lot decides, which": "only on the first way: on the second they come by code",
+}
+WORDS += [(re.escape(sentence), say, BOTH) for sentence, say in UNTRUE.items()]
 # the doc of a function that returns something, and how one begins that names a thing and no deed; a law returns nothing
 DOC = re.compile(r"(?:^ *///.*\n)+(?: *#\[.*\n)*(?= *(?:pub(?:\(crate\))? )?fn \w[^{;]*->)", re.MULTILINE)
 NOUN = re.compile(r" */// (?:What|How|Why|Where|Whom?|Which|The|An?|All|Each|These|Is|Are|Do)\b.*")

@@ -1,7 +1,7 @@
 #!/usr/bin/env python3
 """Runs the tests of refused memory with each of their requests for memory refused in turn: that request alone, and it with all behind it.
 
-tools/memory/refuse_each_in_tests.py [PROGRAM]     needs gcc; PROGRAM is crates/trials/out/trials_tests, as `rt test` builds it
+tools/memory/refuse_each_in_tests.py [PROGRAM]     needs gcc; PROGRAM is crates/desk_tests/out/desk_tests_tests, as `rt test` builds it
 
 The tests themselves judge what comes; by the system's allocator each row of theirs runs undisturbed. Printed are the runs of each row,
 and in how many of them a request was refused.
@@ -15,9 +15,9 @@ HERE = os.path.dirname(os.path.abspath(__file__))
 sys.path.append(os.path.join(HERE, ".."))
 from office import TOP, preloaded
 
-PROGRAM = os.path.join(TOP, "crates", "trials", "out", "trials_tests")
+PROGRAM = os.path.join(TOP, "crates", "desk_tests", "out", "desk_tests_tests")
 TESTS = [
-    "refused::a_desk_is_opened_or_refused_for_want_of_memory",
+    "refused::a_desk_is_opened_or_refused_as_out_of_memory",
     "refused::what_is_refused_memory_is_made_when_it_is_asked_again",
 ]
 

@@ -2,7 +2,7 @@
 use Rattle.std.proofs.Common.{◌≡◌, ℕ, refl}
 use Rattle.rolls.specs.declared.refusal.Refusal.{Refusal}
 use Rattle.rolls.specs.declared.refusal.Refusal.TheVariants as no
-use Rattle.rolls.specs.Told.{number_of, status_of, name_of}
+use Rattle.rolls.specs.RefusalInfo.{number_of, status_of, name_of}
 use Rattle.api.specs.Text.{fault_answer}
 use Rattle.api.specs.Texts.{refusal_text}
 

@@ -57,12 +57,12 @@ is_memory (Ok s) methods old new (Err e) fresh h = by e h.1
 is_memory (Err e) methods old new result fresh h = absurd (let f : false ≡ true = fresh in cc)
 
 -- a route, as it stands in the code
-abbrev pub told : Bor (List ℕ) × Methods → List ℕ × Methods
-told r = (r.0.now, r.1)
+abbrev pub as_values : Bor (List ℕ) × Methods → List ℕ × Methods
+as_values r = (r.0.now, r.1)
 
--- the routes from a place on
+-- the routes from a row on
 abbrev pub left : List (Bor (List ℕ) × Methods) → ℕ → List (List ℕ × Methods)
-left items n = map told (drop n items)
+left items n = map as_values (drop n items)
 
 -- put into these rows, the routes make the others, and each of them is new
 pub record Make (rows : RowsOf (RouteOf Methods)) (routes : List (List ℕ × Methods)) (all : RowsOf (RouteOf Methods)) : Type 0 where
@@ -73,8 +73,8 @@ pub record Make (rows : RowsOf (RouteOf Methods)) (routes : List (List ℕ × Me
 pub goes_on : (items : List (Bor (List ℕ) × Methods)) (n : ℕ) (d : Bor (List ℕ) × Methods) (old new all : RowsOf (RouteOf Methods)) (u : Unit {0}) → n < length items → Make old (left items n) all
     → InsertsRead (parse_route (get_or items n d).0.now) (get_or items n d).1 old new (Ok u) → Make new (left items (n + 1)) all
 goes_on items n d old new all u inside make h =
-    let r = told (get_or items n d) in
-    let next : left items n ≡ r ∷ left items (n + 1) = at_drop_more (map told) items n d inside in
+    let r = as_values (get_or items n d) in
+    let next : left items n ≡ r ∷ left items (n + 1) = at_drop_more (map as_values) items n d inside in
     let fresh = both (is_new (parse_route r.0) old) (are_new (with_one (parse_route r.0) r.1 old) (left items (n + 1))) (ap (are_new old) (sym next) ∙ make.fresh) in
     let put : new ≡ with_one (parse_route r.0) r.1 old = is_put (parse_route r.0) r.1 old new (Ok u) fresh.0 h in
     record {
@@ -86,10 +86,10 @@ goes_on items n d old new all u inside make h =
 pub first_new : (items : List (Bor (List ℕ) × Methods)) (n : ℕ) (d : Bor (List ℕ) × Methods) (old all : RowsOf (RouteOf Methods)) → n < length items → Make old (left items n) all
     → is_new (parse_route (get_or items n d).0.now) old ≡ true
 first_new items n d old all inside make =
-    let r = told (get_or items n d) in
-    let next : left items n ≡ r ∷ left items (n + 1) = at_drop_more (map told) items n d inside in
+    let r = as_values (get_or items n d) in
+    let next : left items n ≡ r ∷ left items (n + 1) = at_drop_more (map as_values) items n d inside in
     (both (is_new (parse_route r.0) old) (are_new (with_one (parse_route r.0) r.1 old) (left items (n + 1))) (ap (are_new old) (sym next) ∙ make.fresh)).0
 
 -- where none is left the rows are made
 pub all_made : (items : List (Bor (List ℕ) × Methods)) (n : ℕ) (rows all : RowsOf (RouteOf Methods)) → length items ≤ n → Make rows (left items n) all → rows ≡ all
-all_made items n rows all past make = ap (λ rest. with_routes rows (map told rest)) (sym (drop_all n items past)) ∙ make.made
+all_made items n rows all past make = ap (λ rest. with_routes rows (map as_values rest)) (sym (drop_all n items past)) ∙ make.made

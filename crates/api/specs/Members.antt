@@ -63,7 +63,7 @@ abbrev pub project_members : Data → Option ((List ℕ × ℕ) × List ℕ)
 project_members = of_size 3 (λ d.
     option_and_then (λ both. option_map (λ supervisor. (both, supervisor)) (text_in (codes "supervisor") d)) (name_and_quota d))
 
--- an aim alone, by its word
+-- the aim that a body asks for: it has the one member `aim`, whose text is the aim's word
 abbrev pub aim_of : Data → Option Aim
 aim_of d = option_and_then aim_with (lone_text (codes "aim") d)
 

@@ -10,7 +10,7 @@ use Rattle.rolls.specs.declared.refusal.Refusal.TheVariants as no
 use Rattle.rolls.specs.declared.request.Reply.{Reply}
 use Rattle.rolls.specs.declared.request.Reply.TheVariants as reply
 use Rattle.rolls.specs.declared.rounds.Placement.{Placement}
-use Rattle.rolls.specs.Told.{number_of, status_of, name_of}
+use Rattle.rolls.specs.RefusalInfo.{number_of, status_of, name_of}
 use Rattle.api.specs.Text.{text_type, typed_answer, json_answer, fault_answer}
 
 -- a refused record in JSON

@@ -7,7 +7,7 @@ ghost use Rattle.api.specs.Inside.Routes.{NamesBy};
 ghost use Rattle.api.specs.Requests.{put_by, opening_asks, by_body, by_method, asked_by, takes_memory, asked_takes_memory, IsReadAs};
 
 use crate::members::{aim_of, choices_of, name_of, project_members, read_json, supervisor_members};
-use crate::routes::{Call, Form, Methods, Place, Put, called, place_of, router};
+use crate::routes::{Call, Form, Methods, Put, RouteMatch, called, route_of, router};
 use http::Method;
 use matchit::Router;
 use rolls::{Bytes, ImportKind, Plain, Refusal, Request, Text};
@@ -164,28 +164,33 @@ fn by_method(methods: Methods, method: &[u8]) -> Option<Form>
 }
 
 /// Returns what a target names.
-fn by_path<'t>(router: &Router<Methods>, target: &'t [u8]) -> Option<Place<'t>>
+fn by_path<'t>(router: &Router<Methods>, target: &'t [u8]) -> Option<RouteMatch<'t>>
     requires { router.now ≡ all_routes }
     ensures { MatchOption result (IsNowhere target.now)
-        (λ place. NamesBy target.now place.methods place.code.now) }
+        (λ found. NamesBy target.now found.methods found.code.now) }
 {
     match str::from_utf8(target) {
         Err(_) => None,
-        Ok(path) => place_of(router, path),
+        Ok(path) => route_of(router, path),
     }
 }
 
-/// Returns what is asked of a place.
-fn asked_at(alloc: Global, place: &Place, method: &[u8], body: &[u8]) -> Result<Request, Refusal>
-    ensures ok { IfOk result (λ request. asked_by (by_method place.now.methods method.now) place.now.code.now body.now
+/// Returns what is asked of a route.
+fn asked_at(
+    alloc: Global,
+    route: &RouteMatch,
+    method: &[u8],
+    body: &[u8],
+) -> Result<Request, Refusal>
+    ensures ok { IfOk result (λ request. asked_by (by_method route.now.methods method.now) route.now.code.now body.now
         ≡ Ok request) }
     ensures err { IfErr result (λ refusal.
-        (asked_by (by_method place.now.methods method.now) place.now.code.now body.now ≡ Err refusal)
-        ⊎ (IsTrue (asked_takes_memory (by_method place.now.methods method.now) body.now) × (refusal ≡ Refusal.Memory))) }
+        (asked_by (by_method route.now.methods method.now) route.now.code.now body.now ≡ Err refusal)
+        ⊎ (IsTrue (asked_takes_memory (by_method route.now.methods method.now) body.now) × (refusal ≡ Refusal.Memory))) }
 {
-    match by_method(place.methods, method) {
+    match by_method(route.methods, method) {
         None => Err(Refusal::WrongMethod),
-        Some(form) => by_body(alloc, form, place.code, body),
+        Some(form) => by_body(alloc, form, route.code, body),
     }
 }
 
@@ -212,7 +217,7 @@ impl Routes {
     {
         match by_path(&self.router, target) {
             None => Err(Refusal::NoRoute),
-            Some(place) => asked_at(self.alloc, &place, method, body),
+            Some(route) => asked_at(self.alloc, &route, method, body),
         }
     }
 }

@@ -65,7 +65,7 @@ pub struct Methods {
 
 /// What a path names: a route, and the text that stands for its parameter, where it has one.
 #[derive(Drop)]
-pub struct Place<'p> {
+pub struct RouteMatch<'p> {
     pub methods: Methods,
     pub code: &'p str,
 }
@@ -289,10 +289,10 @@ pub fn router(alloc: Global) -> Result<Router<Methods>, InsertError>
 }
 
 /// Returns what a path names.
-pub fn place_of<'p>(router: &Router<Methods>, path: &'p str) -> Option<Place<'p>>
+pub fn route_of<'p>(router: &Router<Methods>, path: &'p str) -> Option<RouteMatch<'p>>
     requires { router.now ≡ all_routes }
     ensures { MatchOption result (IsNowhere path.now)
-        (λ place. NamesBy path.now place.methods place.code.now) }
+        (λ found. NamesBy path.now found.methods found.code.now) }
 {
     let Ok(found) = router.at(path) else {
         return None;
@@ -302,5 +302,5 @@ pub fn place_of<'p>(router: &Router<Methods>, path: &'p str) -> Option<Place<'p>
     if !fits(methods.segments, code) {
         return None;
     }
-    Some(Place { methods, code })
+    Some(RouteMatch { methods, code })
 }

@@ -1,7 +1,7 @@
 //! The bytes of answers.
 ghost use Rattle.std.specs.Prelude.{◌≡◌, false, ◌≤◌, ◌⊎◌, ◌++◌, Some, length, codes, decimal, IfOk, OnErr, string_bytes};
 ghost use Rattle.arrayvec.specs.ArrayVec.{array_vec_len};
-ghost use Rattle.rolls.specs.Told.{status_of};
+ghost use Rattle.rolls.specs.RefusalInfo.{status_of};
 ghost use Rattle.serde_json.specs.View.{view};
 ghost use Rattle.serde_json.specs.Written.{compact_text, has_float};
 ghost use Rattle.wire.specs.declared.TheConstants.{MAX_SHORT_BODY};

@@ -1,5 +1,6 @@
 -- What comes of a task where its office was opened or the opening refused, and what is left.
-use Rattle.std.proofs.Common.{◌≡◌, ◌⊎◌, inl, inr, false, Option, None, sym, subst, ap, ◌∙◌}
+use Rattle.std.proofs.Common.{◌≡◌, ◌⊎◌, inl, inr, ℕ, false, List, Result, Option, None, sym, subst, ap, ◌∙◌}
+use Rattle.std.specs.Prelude.{⊤}
 use Rattle.sqlite.specs.Effect.{Database}
 use Rattle.sqlite.specs.State.{State as Seen, HasCleanDisk}
 use Rattle.sqlite.specs.Files.{IsOpened, file_state}
@@ -20,13 +21,18 @@ use Rattle.store.specs.Editions.{latest}
 use Rattle.store.proofs.Standing.{in_latest}
 use Rattle.store.specs.Tables.{HasNone, Opens}
 use Rattle.desk.specs.DeskState.{DeskState}
+use Rattle.world.specs.WorldState.{Found, PortState, Within}
+use Rattle.wire.specs.declared.outcome.Served.{Served}
+use Rattle.wire.specs.declared.outcome.StreamFault.{StreamFault}
+use Rattle.wire.specs.Run.{MessageText}
+use Rattle.web.specs.Connections.{Connect}
 use Rattle.web.specs.Serving.{AnswersFrom, AnswersMessage, AtDesk, at_desk, just_opened}
 use Rattle.web.proofs.OneConnection.{connect_seen, connect_back}
 use Rattle.web.proofs.OneMessage.{message_seen}
 use Rattle.cli.specs.declared.tasks.Task.{Task}
 use Rattle.cli.specs.declared.tasks.Task.TheVariants as task
 use Rattle.cli.specs.Outcomes.{ComesOf, IsUnopened, MayDo, Outcome, refused}
-use Rattle.cli.specs.Databases.{ComesFrom, DoesOver, IsFoundFor, IsOfficeIn, IsOfficeOf, IsWhyUnopened, TakesTo, WasClean}
+use Rattle.cli.specs.Databases.{ComesFrom, DoesOver, IsDone, IsFoundFor, IsOfficeIn, IsOfficeOf, IsWhyUnopened, LeftBy, TakesTo, PrintsOver, WasClean}
 use Rattle.cli.proofs.Writers.{at_once}
 
 -- what was opened is the office of the database before
@@ -54,42 +60,92 @@ why_refused refusal before after (inr (inl storage)) = inr (inl (ap refused stor
 why_refused refusal before after (inr (inr damaged)) = inr (inr (ap refused damaged.0))
 
 -- a desk that keeps no session is as it was just opened
-pub no_sitting : {S : Type 0} (desk : DeskState S) → desk.session ≡ None → at_desk desk ≡ just_opened desk.office
-no_sitting desk none = ap (λ (session : Option SessionState). let at : AtDesk = record { office = desk.office; session = session } in at) none
+pub no_session_yet : {S : Type 0} (desk : DeskState S) → desk.session ≡ None → at_desk desk ≡ just_opened desk.office
+no_session_yet desk none = ap (λ (session : Option SessionState). let at : AtDesk = record { office = desk.office; session = session } in at) none
 
-module _ {S : Type 0} (ghosts : Ghosts S) where
+module _ {S : Type 0} (ghosts : Ghosts S) (ports : ℕ → PortState) where
   -- what a task comes to over its tables it comes to at the desk
-  comes_of : (done : Task) (before after : DeskState S) (o : Outcome) → ComesFrom ghosts done before after o → ComesOf done (at_desk before) (at_desk after) o
+  comes_of : (done : Task) (before after : DeskState S) (o : Outcome) → ComesFrom ghosts ports done before after o → ComesOf done (at_desk before) (at_desk after) o
   comes_of (task.Ask asked) before after o from = record {
     answer = from.0;
-    step = from.1.gets.gives.step;
-    told = from.1.gets.gives.right;
+    step = from.1.gets.step;
     at_once = at_once before.office asked from.0 from.1.gets.at_once.round from.1.gets.at_once.repeated;
     is = from.2;
   }
-  comes_of (task.Serve serving) before after o (inl unbound) = inl (ap at_desk unbound.0, unbound.1)
+  comes_of (task.Serve serving) before after o (inl unbound) = inl (tt, (ap at_desk unbound.1.0, unbound.1.1))
   comes_of (task.Serve serving) before after o (inr served) = inr (record {
     came = served.came;
     counted = served.counted;
-    served = connect_seen at_desk AnswersMessage (AnswersFrom ghosts) (λ b words bytes a step. message_seen ghosts b words bytes a step) before after served.came served.served;
+    served = connect_seen at_desk AnswersMessage (AnswersFrom ghosts) (λ b words bytes a step. message_seen ghosts b words bytes a step) (ports serving.port).comes (λ _ _. ⊤) (λ n found may. tt) before after served.came served.served;
     is = served.is;
   })
 
   -- what a task at a database comes to is an outcome of the task
-  pub may_do : (done : Task) (first last : Held S) (o : Outcome) → DoesOver ghosts done first last o → MayDo done o
-  may_do done first last o (inl not) = inl (subst IsUnopened (sym not.told) (why_refused not.refusal (state ghosts first) (state ghosts last) not.why))
+  pub may_do : (done : Task) (first last : Held S) (o : Outcome) → DoesOver ghosts ports done first last o → MayDo done o
+  may_do done first last o (inl not) = inl (subst IsUnopened (sym not.printed) (why_refused not.refusal (state ghosts first) (state ghosts last) not.why))
   may_do done first last o (inr is) = inr (
     is.desk.office,
     is.fit,
     at_desk is.next,
-    subst (λ (b : AtDesk). ComesOf done b (at_desk is.next) o) (no_sitting is.desk is.no_session) (comes_of done is.desk is.next o is.done),
+    subst (λ (b : AtDesk). ComesOf done b (at_desk is.next) o) (no_session_yet is.desk is.no_session) (comes_of done is.desk is.next o is.done),
   )
 
   -- a disk that is clean after a task was clean before it
-  pub was_clean : (done : Task) (before after : DeskState S) → TakesTo ghosts done before after → WasClean (state ghosts before.store) (state ghosts after.store)
+  pub was_clean : (done : Task) (before after : DeskState S) → TakesTo ghosts ports done before after → WasClean (state ghosts before.store) (state ghosts after.store)
   was_clean (task.Ask asked) before after taken = taken.2
   was_clean (task.Serve serving) before after taken =
-      connect_back (λ desk. HasCleanDisk (state ghosts desk.store)) (AnswersFrom ghosts) (λ b words bytes a step. step.clean) before after taken.0 taken.1
+      connect_back (λ desk. HasCleanDisk (state ghosts desk.store)) (AnswersFrom ghosts) (λ b words bytes a step. step.clean) (ports serving.port).comes before after taken.0 taken.1
+
+-- who came to what is known to be of these ports came to them
+pub came_within : {D : Type 0} (step : D → MessageText → List ℕ → D → Type 0) (some other : ℕ → Found → Type 0) → ((n : ℕ) (found : Found) → some n found → other n found) → (before after : D)
+    (came : List (Result Served StreamFault)) → Connect step some before came after → Connect step other before came after
+came_within step some other may before after came served = connect_seen (λ d. d) step step (λ b words bytes n s. s) some other may before after came served
+
+-- so it is of all that is done with ports that were lent
+module _ {S : Type 0} (ghosts : Ghosts S) (lent ports : ℕ → PortState) (within : (port : ℕ) → Within (lent port) (ports port)) where
+  comes_within : (done : Task) (before after : DeskState S) (o : Outcome) → ComesFrom ghosts lent done before after o → ComesFrom ghosts ports done before after o
+  comes_within (task.Ask asked) before after o from = from
+  comes_within (task.Serve serving) before after o (inl unbound) = inl ((within serving.port).is_taken unbound.0, unbound.1)
+  comes_within (task.Serve serving) before after o (inr served) = inr (record {
+    came = served.came;
+    counted = served.counted;
+    served = came_within (AnswersFrom ghosts) (lent serving.port).comes (ports serving.port).comes (within serving.port).comes before after served.came served.served;
+    is = served.is;
+  })
+
+  takes_within : (done : Task) (before after : DeskState S) → TakesTo ghosts lent done before after → TakesTo ghosts ports done before after
+  takes_within (task.Ask asked) before after taken = taken
+  takes_within (task.Serve serving) before after taken =
+      (taken.0, came_within (AnswersFrom ghosts) (lent serving.port).comes (ports serving.port).comes (within serving.port).comes before after taken.0 taken.1)
+
+  done_within : (A B : DeskState S → DeskState S → Type 0) → ((desk next : DeskState S) → A desk next → B desk next) → (first last : Held S) → IsDone ghosts A first last → IsDone ghosts B first last
+  done_within A B more first last is = record {
+    desk = is.desk;
+    found = is.found;
+    fit = is.fit;
+    no_session = is.no_session;
+    opens = is.opens;
+    is_open = is.is_open;
+    counts = is.counts;
+    limit = is.limit;
+    next = is.next;
+    done = more is.desk is.next is.done;
+    given_back = is.given_back;
+    stands = is.stands;
+  }
+
+  does_within : (done : Task) (first last : Held S) (o : Outcome) → DoesOver ghosts lent done first last o → DoesOver ghosts ports done first last o
+  does_within done first last o (inl not) = inl not
+  does_within done first last o (inr is) =
+      inr (done_within (λ desk next. ComesFrom ghosts lent done desk next o) (λ desk next. ComesFrom ghosts ports done desk next o) (λ desk next from. comes_within done desk next o from) first last is)
+
+  pub tells_within : (name : List ℕ) (done : Task) (first last : Held S) (o : Outcome) → PrintsOver ghosts lent name done first last o → PrintsOver ghosts ports name done first last o
+  tells_within name done first last o (inl new) = inl (new.0, new.1, does_within done first last new.1 new.2, new.3)
+  tells_within name done first last o (inr old) = inr (old.0, does_within done first last o old.1)
+
+  pub left_within : (done : Task) (status : ℕ) (first last : Held S) → LeftBy ghosts lent done status first last → LeftBy ghosts ports done status first last
+  left_within done status first last (inl is) = inl (done_within (TakesTo ghosts lent done) (TakesTo ghosts ports done) (λ desk next taken. takes_within done desk next taken) first last is)
+  left_within done status first last (inr stays) = inr stays
 
 -- the office that was found is the one that the tables of the file stood for, unless the disk has given back what was not written
 pub of_file : {D : Type 0} {g : disk.Ghosts D} (image : Image) (first : Held (FileStore D g)) (after : Seen) → (HasCleanDisk (file_state first) → FindsIn image (file_state first))

@@ -1,5 +1,6 @@
 -- What is printed is printed of more, and what one of the two writers took is printed.
-use Rattle.std.proofs.Common.{◌≡◌, ◌⊎◌, inl, inr, ℕ, ◌+◌, List, ◌++◌, Option, None, Result, Ok, Err, IfErr, MatchResult, Vec, String, refl, ap, ◌∙◌, sym, subst, arith}
+use Rattle.std.proofs.Common.{◌≡◌, ◌⊎◌, inl, inr, ℕ, ◌+◌, List, ◌++◌, Option, None, Result, Ok, Err, IfOk, IfErr, MatchResult, Vec, String, refl, ap, ◌∙◌, sym, subst, arith}
+use Rattle.std.specs.Prelude.{⊤}
 use Rattle.std.specs.Io.KnownBytes.{Appends}
 use Rattle.std.specs.declared.alloc.Global.{Global}
 use Rattle.wire.proofs.Known.{appends_compose, appends_none}
@@ -8,15 +9,18 @@ use Rattle.rolls.specs.declared.refusal.Refusal.TheVariants as no
 use Rattle.rolls.specs.declared.request.Reply.{Reply}
 use Rattle.rolls.specs.declared.request.Request.{Request}
 use Rattle.rolls.specs.State.{State}
-use Rattle.rolls.specs.Told.{number_of, name_of}
-use Rattle.desk.specs.Keeping.{AnswersKept, AnswersRound}
+use Rattle.rolls.specs.RefusalInfo.{number_of, name_of}
+use Rattle.desk.specs.Keeping.{AnswersStored, AnswersRound}
 use Rattle.desk.specs.Sessions.{AnswersAtOnce}
+use Rattle.intake.specs.declared.TheConstants.{MAX_BYTES}
+use Rattle.world.specs.WorldState.{Found, IsReadOf}
 use Rattle.web.specs.Connections.{AllServed, lines_after}
 use Rattle.wire.specs.Run.{MessageText}
 use Rattle.round_files.specs.declared.rounds.Trouble.{Trouble}
 use Rattle.round_files.specs.declared.rounds.Trouble.TheVariants.{Refused}
-use Rattle.cli.specs.Outputs.{Both, HasTold, Output, both_failures}
-use Rattle.cli.specs.Outcomes.{OfDatabase, OnFile, Outcome, Tells, behind, of_round, prints, refused, refusal_line, named_line, new_database, listening, IsUnreadFile, IsServed}
+use Rattle.cli.specs.Imports.{IsUnreadOf}
+use Rattle.cli.specs.Outputs.{Both, HasPrinted, Output, both_failures}
+use Rattle.cli.specs.Outcomes.{OfDatabase, OnFile, Outcome, Prints, behind, of_round, prints, refused, refusal_line, named_line, new_database, listening, IsUnreadFile, IsServed}
 use Rattle.cli.specs.Inside.Outcomes.{Serves}
 
 -- what the two writers took, and how many of their calls failed
@@ -25,16 +29,16 @@ pub record Took : Type 0 where
   pub err : Option (List ℕ)
   pub failures : ℕ
 
--- `Tells` says nothing else of the two outputs
-abbrev pub TellsOf : (Outcome → Type 0) → Took → Took → ℕ → Type 0
-TellsOf Is old new status =
+-- `Prints` says nothing else of the two outputs
+abbrev pub PrintsOf : (Outcome → Type 0) → Took → Took → ℕ → Type 0
+PrintsOf Is old new status =
     ((o : Outcome) × Is o × (new.failures ≡ old.failures) × Appends old.out new.out o.out × Appends old.err new.err o.err × (status ≡ o.status))
     ⊎ ((new.failures ≡ old.failures + 1) × (status ≡ 1))
 
 -- what is printed may come of more
-pub tells_more : (A B : Outcome → Type 0) → ((o : Outcome) → A o → B o) → (old new : Took) (status : ℕ) → TellsOf A old new status → TellsOf B old new status
-tells_more A B more old new status (inl t) = inl (t.0, more t.0 t.1, t.2, t.3, t.4, t.5)
-tells_more A B more old new status (inr failed) = inr failed
+pub prints_more : (A B : Outcome → Type 0) → ((o : Outcome) → A o → B o) → (old new : Took) (status : ℕ) → PrintsOf A old new status → PrintsOf B old new status
+prints_more A B more old new status (inl t) = inl (t.0, more t.0 t.1, t.2, t.3, t.4, t.5)
+prints_more A B more old new status (inr failed) = inr failed
 
 -- what holds of the value that came
 pub at_ok : {A E : Type 0} (P : A → Type 0) (Q : E → Type 0) (came : Result A E) (a : A) → came ≡ Ok a → P a → MatchResult came P Q
@@ -45,49 +49,49 @@ pub at_err : {A E : Type 0} (P : A → Type 0) (Q : E → Type 0) (came : Result
 at_err {A} {E} P Q came e is q = subst (λ (r : Result A E). MatchResult r P Q) (sym is) q
 
 -- what comes of the value that came is printed
-pub ok_told : {A E : Type 0} (Of : A → Outcome → Type 0) (At : E → Outcome → Type 0) (came : Result A E) (a : A) → came ≡ Ok a → (old new : Took) (status : ℕ)
-    → TellsOf (λ o. Of a o) old new status → TellsOf (λ o. MatchResult came (λ a. Of a o) (λ e. At e o)) old new status
-ok_told Of At came a is old new status told =
-    tells_more (λ o. Of a o) (λ o. MatchResult came (λ a. Of a o) (λ e. At e o)) (λ o of. at_ok (λ a. Of a o) (λ e. At e o) came a is of) old new status told
+pub ok_printed : {A E : Type 0} (Of : A → Outcome → Type 0) (At : E → Outcome → Type 0) (came : Result A E) (a : A) → came ≡ Ok a → (old new : Took) (status : ℕ)
+    → PrintsOf (λ o. Of a o) old new status → PrintsOf (λ o. MatchResult came (λ a. Of a o) (λ e. At e o)) old new status
+ok_printed Of At came a is old new status printed =
+    prints_more (λ o. Of a o) (λ o. MatchResult came (λ a. Of a o) (λ e. At e o)) (λ o of. at_ok (λ a. Of a o) (λ e. At e o) came a is of) old new status printed
 
 -- what comes of the error that came is printed
-pub err_told : {A E : Type 0} (Of : A → Outcome → Type 0) (At : E → Outcome → Type 0) (came : Result A E) (e : E) → came ≡ Err e → (old new : Took) (status : ℕ)
-    → TellsOf (λ o. At e o) old new status → TellsOf (λ o. MatchResult came (λ a. Of a o) (λ e. At e o)) old new status
-err_told Of At came e is old new status told =
-    tells_more (λ o. At e o) (λ o. MatchResult came (λ a. Of a o) (λ e. At e o)) (λ o at. at_err (λ a. Of a o) (λ e. At e o) came e is at) old new status told
+pub err_printed : {A E : Type 0} (Of : A → Outcome → Type 0) (At : E → Outcome → Type 0) (came : Result A E) (e : E) → came ≡ Err e → (old new : Took) (status : ℕ)
+    → PrintsOf (λ o. At e o) old new status → PrintsOf (λ o. MatchResult came (λ a. Of a o) (λ e. At e o)) old new status
+err_printed Of At came e is old new status printed =
+    prints_more (λ o. At e o) (λ o. MatchResult came (λ a. Of a o) (λ e. At e o)) (λ o at. at_err (λ a. Of a o) (λ e. At e o) came e is at) old new status printed
 
 -- what comes of a database that is new is printed after its name
-pub told_new : {O E : Type 0} (name : List ℕ) (IsNew : Type 0) (Is : Outcome → Type 0) → IsNew → (old mid new : Both O E) (status : ℕ) → HasTold (new_database name) old mid → Tells Is mid new status
-    → Tells (OfDatabase name IsNew Is) old new status
-told_new {O} {E} name IsNew Is is_new old mid new status has (inl t) =
+pub printed_new : {O E : Type 0} (name : List ℕ) (IsNew : Type 0) (Is : Outcome → Type 0) → IsNew → (old mid new : Both O E) (status : ℕ) → HasPrinted (new_database name) old mid → Prints Is mid new status
+    → Prints (OfDatabase name IsNew Is) old new status
+printed_new {O} {E} name IsNew Is is_new old mid new status has (inl t) =
     let counted : both_failures mid ≡ both_failures old = ap (λ (out : Output O). out.failures + mid.err.failures) has.out ∙ ap (λ n. old.out.failures + n) has.failures in
     inl (behind (new_database name) t.0, inl (is_new, t.0, t.1, refl), t.2 ∙ counted, subst (λ (out : Output O). Appends out.written new.out.written t.0.out) has.out t.3, appends_compose old.err.written mid.err.written new.err.written _ _ has.written t.4, t.5)
-told_new {O} {E} name IsNew Is is_new old mid new status has (inr failed) =
+printed_new {O} {E} name IsNew Is is_new old mid new status has (inr failed) =
     let counted : both_failures mid ≡ both_failures old = ap (λ (out : Output O). out.failures + mid.err.failures) has.out ∙ ap (λ n. old.out.failures + n) has.failures in
     inr (failed.0 ∙ ap (λ n. n + 1) counted, failed.1)
 
 -- where a refusal is printed the status is 1
-pub refused_ends : (r : Refusal) (old new : Took) (status : ℕ) → TellsOf (λ o. o ≡ refused r) old new status → status ≡ 1
+pub refused_ends : (r : Refusal) (old new : Took) (status : ℕ) → PrintsOf (λ o. o ≡ refused r) old new status → status ≡ 1
 refused_ends r old new status (inl t) = t.5 ∙ ap (λ (o : Outcome). o.status) t.1
 refused_ends r old new status (inr failed) = failed.1
 
-module _ {D : Type 0} (step : D → MessageText → List ℕ → D → Type 0) where
+module _ {D : Type 0} (step : D → MessageText → List ℕ → D → Type 0) (comes : ℕ → Found → Type 0) where
   -- the connections were served, and their lines printed after the port's
-  pub all_served : (before after : D) (port count : ℕ) (w0 w1 w : Option (List ℕ)) (f0 f1 f : ℕ) → Appends w0 w1 (listening port) → f1 ≡ f0 → AllServed step before count w1 w after → f ≡ f1
-      → Serves step port count before after w0 w f0 f 0
-  all_served before after port count w0 w1 w f0 f1 f told same served still =
-      inl (prints (listening port ++ lines_after 0 served.came), record { came = served.came; counted = served.counted; served = served.served; is = refl }, still ∙ same, appends_compose w0 w1 w _ _ told served.wrote, refl)
+  pub all_served : (before after : D) (port count : ℕ) (w0 w1 w : Option (List ℕ)) (f0 f1 f : ℕ) → Appends w0 w1 (listening port) → f1 ≡ f0 → AllServed step comes before count w1 w after → f ≡ f1
+      → Serves step comes port count before after w0 w f0 f 0
+  all_served before after port count w0 w1 w f0 f1 f printed same served still =
+      inl (prints (listening port ++ lines_after 0 served.came), record { came = served.came; counted = served.counted; served = served.served; is = refl }, still ∙ same, appends_compose w0 w1 w _ _ printed served.wrote, refl)
 
   -- what was served is printed on standard output alone
-  pub served_told : (before after : D) (port count : ℕ) (w0 w v : Option (List ℕ)) (f0 f g ends : ℕ) → Serves step port count before after w0 w f0 f ends
-      → TellsOf (IsServed step port count before after) (record { out = w0; err = v; failures = f0 + g }) (record { out = w; err = v; failures = f + g }) ends
-  served_told before after port count w0 w v f0 f g ends (inl s) =
+  pub served_printed : (before after : D) (port count : ℕ) (w0 w v : Option (List ℕ)) (f0 f g ends : ℕ) → Serves step comes port count before after w0 w f0 f ends
+      → PrintsOf (IsServed step comes port count before after) (record { out = w0; err = v; failures = f0 + g }) (record { out = w; err = v; failures = f + g }) ends
+  served_printed before after port count w0 w v f0 f g ends (inl s) =
       let printed : s.0 ≡ prints (listening port ++ lines_after 0 s.1.came) = s.1.is in
       inl (s.0, s.1, ap (λ n. n + g) s.2, s.3, subst (λ (o : Outcome). Appends v v o.err) (sym printed) (appends_none v), s.4 ∙ sym (ap (λ (o : Outcome). o.status) printed))
-  served_told before after port count w0 w v f0 f g ends (inr s) = let more : f ≡ f0 + 1 = s.0 in inr (omega (arith, more), s.1)
+  served_printed before after port count w0 w v f0 f g ends (inr s) = let more : f ≡ f0 + 1 = s.0 in inr (omega (arith, more), s.1)
 
 -- where no session is cached no preview is read of one
-pub at_once : (o : State) (q : Request) (a : Result Reply Refusal) → AnswersRound o q a → AnswersKept o q a → AnswersAtOnce o None q a
+pub at_once : (o : State) (q : Request) (a : Result Reply Refusal) → AnswersRound o q a → AnswersStored o q a → AnswersAtOnce o None q a
 at_once o q a round repeated = record { round = round; repeated = repeated; preview = λ is allowed kept. cc }
 
 -- a refusal of a file that is read is printed
@@ -95,11 +99,16 @@ pub unread : (r : Refusal) → ((r ≡ no.Memory) ⊎ (r ≡ no.Storage)) → Is
 unread r (inl memory) = inl (ap refused memory)
 unread r (inr storage) = inr (ap refused storage)
 
--- what came of a round file is an outcome of its line, where the reading may be refused so
-pub of_file : (Is : List ℕ → Result (String Global) Trouble → Type 0) (read : Result (Vec ℕ Global) Refusal) (came : Result (String Global) Trouble) (o : Outcome) → IfErr read (λ r. (r ≡ no.Memory) ⊎ (r ≡ no.Storage))
-    → MatchResult read (λ bytes. Is bytes.items came) (λ r. came ≡ Err (Refused r)) → o ≡ of_round came → OnFile Is o
-of_file Is (Ok bytes) came o why is told = inr (bytes.items, came, is, told)
-of_file Is (Err r) came o why is told = inl (subst IsUnreadFile (sym (told ∙ ap of_round is)) (unread r why))
+-- what came of a round file is an outcome of its line
+pub of_file : (holds : Found → Type 0) (Is : List ℕ → Result (String Global) Trouble → Type 0) (read : Result (Vec ℕ Global) Refusal) (came : Result (String Global) Trouble) (o : Outcome)
+    → IfOk read (λ bytes. IsReadOf holds MAX_BYTES bytes.items) → IfErr read (IsUnreadOf holds) → MatchResult read (λ bytes. Is bytes.items came) (λ r. came ≡ Err (Refused r)) → o ≡ of_round came → OnFile holds Is o
+of_file holds Is (Ok bytes) came o ok why is printed = inr (bytes.items, ok, came, is, printed)
+of_file holds Is (Err r) came o ok why is printed = inl (why.0, why.1, subst IsUnreadFile (sym (printed ∙ ap of_round is)) (unread r why.2))
+
+-- it is one of a file of which nothing is known
+pub of_any : (holds : Found → Type 0) (Is : List ℕ → Result (String Global) Trouble → Type 0) (o : Outcome) → OnFile holds Is o → OnFile (λ _. ⊤) Is o
+of_any holds Is o (inl not) = inl (not.0, tt, not.2)
+of_any holds Is o (inr read) = inr (read.0, (read.1.0, tt, read.1.2), read.2, read.3, read.4)
 
 -- a refusal that is not of a record is printed by its number and name
 pub named_alone : (r : Refusal) → ((n inner : ℕ) → r ≡ no.Row n inner → ⊥) → refusal_line r ≡ named_line (number_of r) (name_of r)

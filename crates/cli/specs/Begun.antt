@@ -1,19 +1,19 @@
 -- What comes of the words that the program is given.
-use Rattle.std.specs.Prelude.{◌≡◌, ◌≢◌, ℕ, List, Option, None}
+use Rattle.std.specs.Prelude.{◌≡◌, ◌≢◌, ℕ, ◌<◌, ◌≤◌, List, length, Option, None, Result, Ok, Err}
 use Rattle.std.specs.declared.io.ErrorKind.{ErrorKind}
 use Rattle.std.specs.declared.io.ErrorKind.TheVariants as kinds
 use Rattle.sqlite_disk.specs.declared.Disk as disk
-use Rattle.sqlite_wal.specs.Recovery.{Image}
+use Rattle.world.specs.WorldState.{WorldState}
 use Rattle.cli.specs.declared.unread.Unread.TheVariants as unread
 use Rattle.cli.specs.Outputs.{Both}
-use Rattle.cli.specs.Outcomes.{ComesTo, Outcome, Tells, of_unread}
+use Rattle.cli.specs.Outcomes.{ComesTo, Outcome, Prints, of_unread}
 use Rattle.cli.specs.Databases.{Came, WordsAt}
 use Rattle.cli.specs.Anew.{StreamsAnew}
 
--- the line of the words was done, over a file with these first contents, and the stream was not read
-pub record IsLineDone {D : Type 0} {g : disk.Ghosts D} {R O E : Type 0} (image : Image) (words : List (List ℕ)) (came : Came D g) (before after : R) (old new : Both O E) (status : ℕ) : Type 0 where
-  pub told : Tells (ComesTo words) old new status
-  pub file : WordsAt image words came old new status
+-- the line of the words was done in this world, and the stream was not read
+pub record IsCommandDone {D : Type 0} {g : disk.Ghosts D} {R O E : Type 0} (world : WorldState) (words : List (List ℕ)) (came : Came D g) (before after : R) (old new : Both O E) (status : ℕ) : Type 0 where
+  pub printed : Prints (ComesTo words) old new status
+  pub file : WordsAt world words came old new status
   pub unread : after ≡ before
 
 -- the stream was served to standard output alone, and no file was opened
@@ -28,6 +28,19 @@ OfUnread kind o = (kind ≡ kinds.OutOfMemory → o ≡ of_unread unread.Memory)
 
 -- why the words could not be read was printed, the stream was not read, and no file was opened
 pub record IsUntaken {C R O E : Type 0} (kind : ErrorKind) (came : Option C) (before after : R) (old new : Both O E) (status : ℕ) : Type 0 where
-  pub told : Tells (OfUnread kind) old new status
+  pub printed : Prints (OfUnread kind) old new status
   pub unread : after ≡ before
   pub no_file : came ≡ None
+
+module _ {D : Type 0} {g : disk.Ghosts D} {O E : Type 0} (world : WorldState) (left0 : Option (List ℕ)) where
+  -- a line of more than one word was done, or the stream was served, or it was printed why the words could not be read
+  abbrev pub Follows : Result (List (List ℕ)) ErrorKind → Came D g → Both O E → Both O E → ℕ → Type 0
+  Follows (Ok words) came old new status =
+      (1 < length words → Prints (ComesTo words) old new status × WordsAt world words came old new status)
+      × (length words ≤ 1 → (left : Option (List ℕ)) × IsStreamDone left0 left came old new status)
+  Follows (Err kind) came old new status = (came ≡ None) × Prints (OfUnread kind) old new status
+
+-- that is what was done of the words and the standard input of a world
+abbrev pub IsAllDone : {D : Type 0} {g : disk.Ghosts D} {O E : Type 0} → WorldState → Came D g → Both O E → Both O E → ℕ → Type 0
+IsAllDone world came old new status =
+    (said : Result (List (List ℕ)) ErrorKind) × world.said said × (left0 : Option (List ℕ)) × world.input left0 × Follows world left0 said came old new status

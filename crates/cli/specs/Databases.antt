@@ -1,5 +1,5 @@
 -- What a line does at a database and leaves of it, and what comes of closing the file.
-use Rattle.std.specs.Prelude.{◌≡◌, ◌⊎◌, ◌≤◌, ℕ, false, List, string_bytes, Option, Some, None, Result, Ok, Err, IfOk, IfErr, IsTrue}
+use Rattle.std.specs.Prelude.{◌≡◌, ◌≢◌, ◌⊎◌, ◌≤◌, ℕ, false, List, string_bytes, Option, Some, None, Result, Ok, Err, IfOk, IfErr, IsTrue}
 use Rattle.sqlite_disk.specs.declared.Disk as disk
 use Rattle.sqlite_disk.specs.declared.Files.{Files}
 use Rattle.sqlite_wal.specs.Reads.{AreClean}
@@ -8,6 +8,8 @@ use Rattle.sqlite_trees.specs.View.{IsClean}
 use Rattle.sqlite_store.specs.declared.store.FileStore.{FileStore}
 use Rattle.sqlite_store.specs.FileStore.{view}
 use Rattle.sqlite.specs.declared.error.Error.{Error}
+use Rattle.sqlite.specs.declared.error.Error.TheVariants.{SqliteFailure}
+use Rattle.sqlite.specs.declared.error.ErrorCode.TheVariants.{OutOfMemory}
 use Rattle.sqlite.specs.Effect.{Database, IsDatabase}
 use Rattle.sqlite.specs.State.{State as Seen, HasCleanDisk}
 use Rattle.sqlite.specs.Held.{Held, state}
@@ -37,6 +39,7 @@ use Rattle.desk.specs.DeskState.{DeskState}
 use Rattle.web.specs.Connections.{Connect}
 use Rattle.web.specs.Serving.{AnswersFrom, GetsAt}
 use Rattle.wire.specs.declared.outcome.Served.{Served}
+use Rattle.world.specs.WorldState.{PortState, WorldState}
 use Rattle.wire.specs.declared.outcome.StreamFault.{StreamFault}
 use Rattle.round_files.specs.Rounds.{IsSolved, IsChecked}
 use Rattle.commands.specs.declared.line.Line.{Line}
@@ -47,7 +50,7 @@ use Rattle.cli.specs.declared.tasks.Task.{Task}
 use Rattle.cli.specs.declared.tasks.Task.TheVariants as task
 use Rattle.cli.specs.Outputs.{Both}
 use Rattle.cli.specs.Imports.{IsImportOfFile}
-use Rattle.cli.specs.Outcomes.{IsUnreadFile, MayComeOf, OfDatabase, OnFile, Outcome, ServesAt, Tells, of_answer, refused}
+use Rattle.cli.specs.Outcomes.{MayComeOf, OfDatabase, OnFile, Outcome, ServesAt, Prints, of_answer, refused}
 
 -- a disk that is clean after a task was clean before it
 abbrev pub WasClean : Seen → Seen → Type 0
@@ -76,22 +79,23 @@ StaysSo before after = HasCleanDisk after → IsKept before after
 pub record IsNotDone (before after : Seen) (o : Outcome) : Type 0 where
   pub refusal : Refusal
   pub why : IsWhyUnopened refusal before after
-  pub told : o ≡ refused refusal
+  pub printed : o ≡ refused refusal
   pub stays : StaysSo before after
 
-module _ {S : Type 0} (ghosts : Ghosts S) where
+module _ {S : Type 0} (ghosts : Ghosts S) (ports : ℕ → PortState) where
   -- What a task comes to at a desk over its tables: of the answer of its request, or of the connections served. Each fault of the storage
   -- that it is answered by, or a client of a connection, has its cause in the tables as they stood then.
   abbrev pub ComesFrom : Task → DeskState S → DeskState S → Outcome → Type 0
   ComesFrom (task.Ask asked) before after o = (answer : Result Reply Refusal) × GetsAt ghosts before asked answer after × (o ≡ of_answer answer)
-  ComesFrom (task.Serve serving) before after o = ServesAt (AnswersFrom ghosts) serving.port serving.count before after o
+  ComesFrom (task.Serve serving) before after o = ServesAt (AnswersFrom ghosts) (ports serving.port) serving.port serving.count before after o
 
   -- what a task makes of what is at a desk: one step of its request, or what its connections make
   abbrev pub TakesTo : Task → DeskState S → DeskState S → Type 0
   TakesTo (task.Ask asked) before after =
       (answer : Result Reply Refusal) × Step layers before.office asked answer after.office × WasClean (state ghosts before.store) (state ghosts after.store)
-  TakesTo (task.Serve serving) before after = (came : List (Result Served StreamFault)) × Connect (AnswersFrom ghosts) before came after
+  TakesTo (task.Serve serving) before after = (came : List (Result Served StreamFault)) × Connect (AnswersFrom ghosts) (ports serving.port).comes before came after
 
+module _ {S : Type 0} (ghosts : Ghosts S) where
   -- The office of the database was opened at this desk, this was done there, and the tables stand for the office after it. From the opening
   -- on no failure of the disk is taken back, and what a statement may take stays.
   pub record IsDone (Done : DeskState S → DeskState S → Type 0) (first last : Held S) : Type 0 where
@@ -108,20 +112,21 @@ module _ {S : Type 0} (ghosts : Ghosts S) where
     pub given_back : last ≡ next.store
     pub stands : Keeps (state ghosts last) next.office
 
+module _ {S : Type 0} (ghosts : Ghosts S) (ports : ℕ → PortState) where
   -- what a task at a database comes to, and what the database is then
   abbrev pub DoesOver : Task → Held S → Held S → Outcome → Type 0
   DoesOver done first last o =
-      IsNotDone (state ghosts first) (state ghosts last) o ⊎ IsDone (λ desk next. ComesFrom done desk next o) first last
+      IsNotDone (state ghosts first) (state ghosts last) o ⊎ IsDone ghosts (λ desk next. ComesFrom ghosts ports done desk next o) first last
 
   -- What a task with this status leaves of a database, whether or not it could be printed: what it makes of the office, or, where that was
   -- not opened, with status 1, the database as it was.
   abbrev pub LeftBy : Task → ℕ → Held S → Held S → Type 0
   LeftBy done status first last =
-      IsDone (TakesTo done) first last ⊎ ((status ≡ 1) × StaysSo (state ghosts first) (state ghosts last))
+      IsDone ghosts (TakesTo ghosts ports done) first last ⊎ ((status ≡ 1) × StaysSo (state ghosts first) (state ghosts last))
 
   -- what is printed of a task at the database with this name: the name first, where none of the tables is there yet, then what it comes to
-  abbrev pub TellsOver : List ℕ → Task → Held S → Held S → Outcome → Type 0
-  TellsOver name done first last = OfDatabase name (HasNone (state ghosts first).now.schema) (DoesOver done first last)
+  abbrev pub PrintsOver : List ℕ → Task → Held S → Held S → Outcome → Type 0
+  PrintsOver name done first last = OfDatabase name (HasNone (state ghosts first).now.schema) (DoesOver done first last)
 
 -- What comes of closing a database file: the last commit is in the file alone, or memory ran out or the disk failed, and the two
 -- files hold it as before.
@@ -137,47 +142,55 @@ IsOfficeIn image office = (db : Trees) → HoldsDatabase image db → (it : Data
 abbrev pub Came : (D : Type 0) → disk.Ghosts D → Type 0
 Came D g = Option (Result (Files D) (Error × FileStore D g))
 
--- A database file with this name and these first contents was opened, a task was done over it, printed and left, and the file was closed,
+-- The database file with this name was opened, with its first contents, a task was done over it, printed and left, and the file was closed,
 -- which came to this. The office that was found is the one of the file.
-pub record DoneOver {D : Type 0} {g : disk.Ghosts D} {O E : Type 0} (image : Image) (name : List ℕ) (done : Task)
+pub record DoneOver {D : Type 0} {g : disk.Ghosts D} {O E : Type 0} (world : WorldState) (name : List ℕ) (done : Task)
     (came : Result (Files D) (Error × FileStore D g)) (old new : Both O E) (status : ℕ) : Type 0 where
   pub first : Held (FileStore D g)
   pub last : Held (FileStore D g)
-  pub found : HasCleanDisk (file_state first) → FindsIn image (file_state first)
+  pub found : HasCleanDisk (file_state first) → FindsIn (world.image name) (file_state first)
   pub opened : HasCleanDisk (file_state first) → IsOpened first
-  pub plain : HasCleanDisk (file_state first) → IsBlankAs false image → (view first.store).has_sums ≡ false
-  pub of_file : (office : State) → IsFoundFor (file_state first) (file_state last) office → HasCleanDisk (file_state last) → IsOfficeIn image office
-  pub told : Tells (TellsOver over_files name done first last) old new status
-  pub left : LeftBy over_files done status first last
+  pub plain : HasCleanDisk (file_state first) → IsBlankAs false (world.image name) → (view first.store).has_sums ≡ false
+  pub of_file : (office : State) → IsFoundFor (file_state first) (file_state last) office → HasCleanDisk (file_state last) → IsOfficeIn (world.image name) office
+  pub printed : Prints (PrintsOver over_files world.ports name done first last) old new status
+  pub left : LeftBy over_files world.ports done status first last
   pub closing : IsClosing last came
 
-module _ {D : Type 0} {g : disk.Ghosts D} {O E : Type 0} (image : Image) where
+-- the refusal of a database file that is not opened by this fault
+abbrev pub IsRefusalOf : Error → Refusal → Type 0
+IsRefusalOf error refusal = (error ≡ SqliteFailure OutOfMemory → refusal ≡ no.Memory) × (error ≢ SqliteFailure OutOfMemory → refusal ≡ no.Storage)
+
+-- the database file with this name could not be opened, and why is printed
+abbrev pub IsUnfound : WorldState → List ℕ → Outcome → Type 0
+IsUnfound world name o = (error : Error) × world.refuses name error × (refusal : Refusal) × IsRefusalOf error refusal × (o ≡ refused refusal)
+
+module _ {D : Type 0} {g : disk.Ghosts D} {O E : Type 0} (world : WorldState) where
   -- a task was done over the file with this name, or it could not be opened
   abbrev pub DoneAt : List ℕ → Task → Came D g → Both O E → Both O E → ℕ → Type 0
-  DoneAt name done (Some came) old new status = DoneOver image name done came old new status
-  DoneAt name done None old new status = Tells IsUnreadFile old new status
+  DoneAt name done (Some came) old new status = DoneOver world name done came old new status
+  DoneAt name done None old new status = Prints (IsUnfound world name) old new status
 
   -- what was made of an import file was asked over the file with this name, or was refused, and nothing was opened
   abbrev pub AskedAt : List ℕ → Result Request Refusal → Came D g → Both O E → Both O E → ℕ → Type 0
   AskedAt name (Ok asked) came old new status = DoneAt name (task.Ask asked) came old new status
-  AskedAt name (Err refusal) came old new status = (came ≡ None) × Tells (λ o. o ≡ refused refusal) old new status
+  AskedAt name (Err refusal) came old new status = (came ≡ None) × Prints (λ o. o ≡ refused refusal) old new status
 
   -- a line was done at the database file that it names, if it names one
   abbrev pub LineAt : Line → Came D g → Both O E → Both O E → ℕ → Type 0
   LineAt (line.Serve database port count) came old new status = DoneAt (string_bytes database) (task.Serve (record { port = port; count = count })) came old new status
   LineAt (line.Import database kind id file) came old new status =
-      (made : Result Request Refusal) × IsImportOfFile (string_bytes id) kind made × AskedAt (string_bytes database) made came old new status
+      (made : Result Request Refusal) × IsImportOfFile (world.holds (string_bytes file)) (string_bytes id) kind made × AskedAt (string_bytes database) made came old new status
   LineAt (line.OpenRound database aim) came old new status = DoneAt (string_bytes database) (task.Ask (request.Plain (plain.OpenRound aim))) came old new status
   LineAt (line.ReopenRound database) came old new status = DoneAt (string_bytes database) (task.Ask (request.Plain plain.ReopenRound)) came old new status
   LineAt (line.CloseRound database) came old new status = DoneAt (string_bytes database) (task.Ask request.Close) came old new status
   LineAt (line.Report database kind round) came old new status = DoneAt (string_bytes database) (task.Ask (request.Report kind round)) came old new status
-  LineAt (line.Solve file) came old new status = (came ≡ None) × Tells (OnFile IsSolved) old new status
-  LineAt (line.Check file) came old new status = (came ≡ None) × Tells (OnFile IsChecked) old new status
+  LineAt (line.Solve file) came old new status = (came ≡ None) × Prints (OnFile (world.holds (string_bytes file)) IsSolved) old new status
+  LineAt (line.Check file) came old new status = (came ≡ None) × Prints (OnFile (world.holds (string_bytes file)) IsChecked) old new status
 
   -- the line of the words was done so, or their fault was printed, and nothing was opened
   abbrev pub CommandAt : Result Line LineFault → Came D g → Both O E → Both O E → ℕ → Type 0
   CommandAt (Ok line) came old new status = LineAt line came old new status
-  CommandAt (Err fault) came old new status = (came ≡ None) × Tells (MayComeOf (Err fault)) old new status
+  CommandAt (Err fault) came old new status = (came ≡ None) × Prints (MayComeOf (Err fault)) old new status
 
   -- the same of any words that are read so
   abbrev pub WordsAt : List (List ℕ) → Came D g → Both O E → Both O E → ℕ → Type 0

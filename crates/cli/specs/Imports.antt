@@ -6,6 +6,7 @@ use Rattle.rolls.specs.declared.refusal.Refusal.TheVariants as no
 use Rattle.rolls.specs.declared.request.Request.{Request}
 use Rattle.rolls.specs.declared.request.Request.TheVariants as request
 use Rattle.rolls.specs.declared.TheConstants.{MAX_IMPORT_BYTES}
+use Rattle.world.specs.WorldState.{Found, IsReadOf}
 
 -- the request of an import of these bytes was made, or there are too many, or memory ran out for it
 abbrev pub IsImportOf : List ℕ → ImportKind → List ℕ → Result Request Refusal → Type 0
@@ -13,7 +14,12 @@ IsImportOf id kind bytes (Ok asked) = (length bytes ≤ MAX_IMPORT_BYTES) × (as
 IsImportOf id kind bytes (Err refusal) =
     ((MAX_IMPORT_BYTES < length bytes) × (refusal ≡ no.TooLarge)) ⊎ ((length bytes ≤ MAX_IMPORT_BYTES) × (refusal ≡ no.Memory))
 
--- the request of an import of some bytes was made, or not, or the file could not be read
-abbrev pub IsImportOfFile : List ℕ → ImportKind → Result Request Refusal → Type 0
-IsImportOfFile id kind (Ok asked) = (bytes : List ℕ) × IsImportOf id kind bytes (Ok asked)
-IsImportOfFile id kind (Err refusal) = ((refusal ≡ no.Memory) ⊎ (refusal ≡ no.Storage)) ⊎ ((bytes : List ℕ) × IsImportOf id kind bytes (Err refusal))
+-- a file with these contents could not be read: memory ran out for it, or it is refused
+abbrev pub IsUnreadOf : (Found → Type 0) → Refusal → Type 0
+IsUnreadOf holds refusal = (found : Found) × holds found × ((refusal ≡ no.Memory) ⊎ (refusal ≡ no.Storage))
+
+-- the request of an import of the bytes of a file with these contents was made, or not, or the file could not be read
+abbrev pub IsImportOfFile : (Found → Type 0) → List ℕ → ImportKind → Result Request Refusal → Type 0
+IsImportOfFile holds id kind made =
+    ((bytes : List ℕ) × IsReadOf holds MAX_IMPORT_BYTES bytes × IsImportOf id kind bytes made)
+    ⊎ ((refusal : Refusal) × IsUnreadOf holds refusal × (made ≡ Err refusal))

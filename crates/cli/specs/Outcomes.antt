@@ -1,5 +1,5 @@
 -- What a line of the program comes to: what it prints where, and its status.
-use Rattle.std.specs.Prelude.{◌≡◌, ◌⊎◌, ℕ, ◌+◌, ◌<◌, ◌≤◌, List, [], ◌∷◌, ◌++◌, length, flat_map, codes, decimal, string_bytes, Option, None, Result, Ok, Err, String}
+use Rattle.std.specs.Prelude.{◌≡◌, ◌⊎◌, ℕ, ◌+◌, ◌<◌, ◌≤◌, List, [], ◌∷◌, ◌++◌, length, flat_map, codes, decimal, string_bytes, ⊤, Option, None, Result, Ok, Err, String}
 use Rattle.std.specs.declared.alloc.Global.{Global}
 use Rattle.std.specs.Io.KnownBytes.{Appends}
 use Rattle.rolls.specs.declared.import.ImportKind.{ImportKind}
@@ -11,12 +11,14 @@ use Rattle.rolls.specs.declared.request.Reply.TheVariants as reply
 use Rattle.rolls.specs.declared.request.Request.{Request}
 use Rattle.rolls.specs.declared.request.Request.TheVariants as request
 use Rattle.rolls.specs.declared.TheConstants.{MAX_IMPORT_BYTES}
+use Rattle.intake.specs.declared.TheConstants.{MAX_BYTES}
+use Rattle.world.specs.WorldState.{Found, IsReadOf, PortState, some_port}
 use Rattle.rolls.specs.State.{State}
 use Rattle.rolls.specs.Fit.{IsFit}
 use Rattle.rolls.specs.Run.{Step}
-use Rattle.rolls.specs.Told.{number_of, name_of}
+use Rattle.rolls.specs.RefusalInfo.{number_of, name_of}
 use Rattle.outside.specs.Layers.{layers}
-use Rattle.desk.specs.Sessions.{AnswersAtOnce, IsToldRight}
+use Rattle.desk.specs.Sessions.{AnswersAtOnce}
 use Rattle.web.specs.Connections.{Connect, lines_after}
 use Rattle.web.specs.Serving.{AnswersMessage, AtDesk, just_opened}
 use Rattle.wire.specs.Run.{MessageText}
@@ -47,8 +49,8 @@ abbrev pub prints : List ℕ → Outcome
 prints text = record { out = text; err = []; status = 0 }
 
 -- a message, with this status
-abbrev pub tells : ℕ → List ℕ → Outcome
-tells status text = record { out = []; err = text; status = status }
+abbrev pub prints_err : ℕ → List ℕ → Outcome
+prints_err status text = record { out = []; err = text; status = status }
 
 -- the line of a refusal with this number and this name
 abbrev pub named_line : ℕ → List ℕ → List ℕ
@@ -61,7 +63,7 @@ refusal_line refusal = named_line (number_of refusal) (name_of refusal)
 
 -- a refusal
 abbrev pub refused : Refusal → Outcome
-refused refusal = tells 1 (refusal_line refusal)
+refused refusal = prints_err 1 (refusal_line refusal)
 
 -- the line of a round text's bad line
 abbrev pub bad_line : ℕ → List ℕ
@@ -71,7 +73,7 @@ bad_line n = codes "bad line " ++ decimal n ++ 10 ∷ []
 abbrev pub of_round : Result (String Global) Trouble → Outcome
 of_round (Ok text) = prints (string_bytes text)
 of_round (Err (Refused refusal)) = refused refusal
-of_round (Err (BadLine n)) = tells 1 (bad_line n)
+of_round (Err (BadLine n)) = prints_err 1 (bad_line n)
 of_round (Err (Failed text)) = record { out = string_bytes text; err = []; status = 1 }
 
 -- numbers, each after a space
@@ -106,30 +108,30 @@ behind line o = record { out = o.out; err = line ++ o.err; status = o.status }
 
 -- what comes of a database with this name, after the line of one that is new where it is
 abbrev pub OfDatabase : List ℕ → Type 0 → (Outcome → Type 0) → Outcome → Type 0
-OfDatabase name IsNew Is o = (IsNew × (told : Outcome) × Is told × (o ≡ behind (new_database name) told)) ⊎ ((IsNew → ⊥) × Is o)
+OfDatabase name IsNew Is o = (IsNew × (printed : Outcome) × Is printed × (o ≡ behind (new_database name) printed)) ⊎ ((IsNew → ⊥) × Is o)
 
 -- the same of a database that may be new
 abbrev pub MayBeNew : List ℕ → (Outcome → Type 0) → Outcome → Type 0
-MayBeNew name Is o = ((told : Outcome) × Is told × (o ≡ behind (new_database name) told)) ⊎ Is o
+MayBeNew name Is o = ((printed : Outcome) × Is printed × (o ≡ behind (new_database name) printed)) ⊎ Is o
 
 -- a file could not be read: memory ran out for it, or it is refused
 abbrev pub IsUnreadFile : Outcome → Type 0
 IsUnreadFile o = (o ≡ refused no.Memory) ⊎ (o ≡ refused no.Storage)
 
--- a line on a round file: it could not be read, or what comes of its bytes
-abbrev pub OnFile : (List ℕ → Result (String Global) Trouble → Type 0) → Outcome → Type 0
-OnFile Is o = IsUnreadFile o ⊎ ((bytes : List ℕ) × (came : Result (String Global) Trouble) × Is bytes came × (o ≡ of_round came))
+-- a line on a round file with these contents: it could not be read, or what comes of its bytes
+abbrev pub OnFile : (Found → Type 0) → (List ℕ → Result (String Global) Trouble → Type 0) → Outcome → Type 0
+OnFile holds Is o =
+    ((found : Found) × holds found × IsUnreadFile o)
+    ⊎ ((bytes : List ℕ) × IsReadOf holds MAX_BYTES bytes × (came : Result (String Global) Trouble) × Is bytes came × (o ≡ of_round came))
 
 -- the database could not be opened, or its tables stand for no office
 abbrev pub IsUnopened : Outcome → Type 0
 IsUnopened o = (o ≡ refused no.Memory) ⊎ ((o ≡ refused no.Storage) ⊎ (o ≡ refused no.Damaged))
 
--- A request was asked of an office, and this is what comes of the answer. A refusal by name is printed as itself, a fault of the storage
--- only of what changes the office, and what allocates nothing is answered.
+-- a request was asked of an office, and this is what comes of the answer; what allocates nothing is answered
 pub record IsAsked (asked : Request) (before after : State) (o : Outcome) : Type 0 where
   pub answer : Result Reply Refusal
   pub step : Step layers before asked answer after
-  pub told : IsToldRight before asked answer
   pub at_once : AnswersAtOnce before None asked answer
   pub is : o ≡ of_answer answer
 
@@ -143,24 +145,25 @@ no_port port = codes "no port " ++ decimal port ++ 10 ∷ []
 
 -- the port could not be bound, and nothing is done at the desk
 abbrev pub IsUnbound : {D : Type 0} → ℕ → D → D → Outcome → Type 0
-IsUnbound port before after o = (after ≡ before) × (o ≡ tells 1 (no_port port))
+IsUnbound port before after o = (after ≡ before) × (o ≡ prints_err 1 (no_port port))
 
-module _ {D : Type 0} (step : D → MessageText → List ℕ → D → Type 0) where
-  -- this many connections were served at a desk
+module _ {D : Type 0} (step : D → MessageText → List ℕ → D → Type 0) (comes : ℕ → Found → Type 0) where
+  -- this many connections, the first that came, were served at a desk
   pub record IsServed (port count : ℕ) (before after : D) (o : Outcome) : Type 0 where
     pub came : List (Result Served StreamFault)
     pub counted : length came ≡ count
-    pub served : Connect step before came after
+    pub served : Connect step comes before came after
     pub is : o ≡ prints (listening port ++ lines_after 0 came)
 
-  -- or their port could not be bound
+module _ {D : Type 0} (step : D → MessageText → List ℕ → D → Type 0) (at : PortState) where
+  -- those of this port were, or it could not be bound
   abbrev pub ServesAt : ℕ → ℕ → D → D → Outcome → Type 0
-  ServesAt port count before after o = IsUnbound port before after o ⊎ IsServed port count before after o
+  ServesAt port count before after o = (at.is_taken × IsUnbound port before after o) ⊎ IsServed step at.comes port count before after o
 
 -- what a task comes to at a desk, and what is at the desk after it
 abbrev pub ComesOf : Task → AtDesk → AtDesk → Outcome → Type 0
 ComesOf (task.Ask asked) before after o = IsAsked asked before.office after.office o
-ComesOf (task.Serve serving) before after o = ServesAt AnswersMessage serving.port serving.count before after o
+ComesOf (task.Serve serving) before after o = ServesAt AnswersMessage some_port serving.port serving.count before after o
 
 -- what a task at a database may come to: it could not be opened, or what the task comes to at a fit office that was just opened
 abbrev pub MayDo : Task → Outcome → Type 0
@@ -188,13 +191,13 @@ MayCome (line.OpenRound database aim) o = MayDoAt (string_bytes database) (task.
 MayCome (line.ReopenRound database) o = MayDoAt (string_bytes database) (task.Ask (request.Plain plain.ReopenRound)) o
 MayCome (line.CloseRound database) o = MayDoAt (string_bytes database) (task.Ask request.Close) o
 MayCome (line.Report database kind round) o = MayDoAt (string_bytes database) (task.Ask (request.Report kind round)) o
-MayCome (line.Solve file) o = OnFile IsSolved o
-MayCome (line.Check file) o = OnFile IsChecked o
+MayCome (line.Solve file) o = OnFile (λ _. ⊤) IsSolved o
+MayCome (line.Check file) o = OnFile (λ _. ⊤) IsChecked o
 
 -- what is printed where the arguments cannot be read
 abbrev pub of_unread : Unread → Outcome
 of_unread unread.Memory = refused no.Memory
-of_unread unread.NotUtf8 = tells 2 (codes "error: invalid UTF-8 was detected in one or more arguments\n\nUsage: spadesk <COMMAND>\n\nFor more information, try '--help'.\n")
+of_unread unread.NotUtf8 = prints_err 2 (codes "error: invalid UTF-8 was detected in one or more arguments\n\nUsage: spadesk <COMMAND>\n\nFor more information, try '--help'.\n")
 
 -- what words may come to: what their line does, or their fault
 abbrev pub MayComeOf : Result Line LineFault → Outcome → Type 0
@@ -202,7 +205,7 @@ MayComeOf (Ok line) o = MayCome line o
 MayComeOf (Err Memory) o = o ≡ refused no.Memory
 MayComeOf (Err (Help text)) o = o ≡ prints (string_bytes text)
 MayComeOf (Err (Version text)) o = o ≡ prints (string_bytes text)
-MayComeOf (Err (Fault text)) o = o ≡ tells 2 (string_bytes text)
+MayComeOf (Err (Fault text)) o = o ≡ prints_err 2 (string_bytes text)
 
 -- a text was written and the status is this, or the writer failed and the status is 1
 abbrev pub Printed : List ℕ → ℕ → Option (List ℕ) → Option (List ℕ) → ℕ → ℕ → ℕ → Type 0
@@ -210,8 +213,8 @@ Printed text status w0 w failures0 failures ends =
     ((failures ≡ failures0) × Appends w0 w text × (ends ≡ status)) ⊎ ((failures ≡ failures0 + 1) × (ends ≡ 1))
 
 -- one of these outcomes was written to the two outputs and its status is this, or one call of a writer failed and the status is 1
-abbrev pub Tells : {O E : Type 0} → (Outcome → Type 0) → Both O E → Both O E → ℕ → Type 0
-Tells Is old new status =
+abbrev pub Prints : {O E : Type 0} → (Outcome → Type 0) → Both O E → Both O E → ℕ → Type 0
+Prints Is old new status =
     ((o : Outcome) × Is o × (both_failures new ≡ both_failures old) × Appends old.out.written new.out.written o.out × Appends old.err.written new.err.written o.err × (status ≡ o.status))
     ⊎ ((both_failures new ≡ both_failures old + 1) × (status ≡ 1))
 

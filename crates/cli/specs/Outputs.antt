@@ -22,7 +22,7 @@ abbrev pub both_failures : {O E : Type 0} → Both O E → ℕ
 both_failures outputs = outputs.out.failures + outputs.err.failures
 
 -- this was written on standard error, and nothing else was done
-pub record HasTold {O E : Type 0} (text : List ℕ) (old new : Both O E) : Type 0 where
+pub record HasPrinted {O E : Type 0} (text : List ℕ) (old new : Both O E) : Type 0 where
   pub out : new.out ≡ old.out
   pub failures : new.err.failures ≡ old.err.failures
   pub written : Appends old.err.written new.err.written text

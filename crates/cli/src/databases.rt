@@ -2,8 +2,8 @@
 
 ghost use Rattle.sqlite.specs.Files.{over_files};
 ghost use Rattle.cli.specs.Outputs.{CanFail};
-ghost use Rattle.cli.specs.Outcomes.{Tells};
-ghost use Rattle.cli.specs.Databases.{DoesOver, TellsOver, LeftBy, IsClosing};
+ghost use Rattle.cli.specs.Outcomes.{Prints};
+ghost use Rattle.cli.specs.Databases.{DoesOver, PrintsOver, LeftBy, IsClosing};
 
 use crate::opening::{Closing, close_file};
 use crate::outputs::Outputs;
@@ -11,35 +11,37 @@ use crate::tasks::{Task, do_at};
 use desk::Desk;
 use sqlite::{Alter, Connection, FileStore};
 use sqlite_disk::Disk;
-use std::rt::HostRuntime;
+use std::alloc::Global;
 use store::has_none;
 use web::Sink;
+use world::Ports;
 
 /// Does a task at the office of a database, or prints the refusal of its opening, and gives the connection back.
 ///
 /// It takes any store, and so do those who hold the desk: a desk over a store of files by name takes the prover a minute in each function
 /// that holds one. A task that is not done is handed to `drop`, since each kind of request would else be a path here.
-fn do_over<S: Alter + Drop, O: Sink, E: Sink>(
-    rt: &HostRuntime,
+fn do_over<S: Alter + Drop, P: Ports, O: Sink, E: Sink>(
+    alloc: Global,
+    ports: P,
     connection: Connection<S>,
     task: Task,
     outputs: &mut Outputs<O, E>,
 ) -> (u8, Connection<S>)
     requires { CanFail outputs.old }
-    ensures told { Tells (DoesOver S.Store task connection result.1) outputs.old outputs.new result.0 }
+    ensures printed { Prints (DoesOver S.Store (P.state ports) task connection result.1) outputs.old outputs.new result.0 }
 
     // Where a writer has failed no outcome is printed, and it is still known what is left.
-    ensures left { LeftBy S.Store task result.0 connection result.1 }
+    ensures left { LeftBy S.Store (P.state ports) task result.0 connection result.1 }
 {
-    match Desk::open(rt.alloc(), connection) {
+    match Desk::open(alloc, connection) {
         Ok(mut desk) => {
             desk.keeps();
-            let status = do_at(rt, &mut desk, task, outputs);
+            let status = do_at(alloc, ports, &mut desk, task, outputs);
             desk.keeps();
             (status, desk.into_connection())
         }
         Err((refusal, connection)) => {
-            drop(task);
+            drop((ports, task));
             (outputs.refuse(refusal), connection)
         }
     }
@@ -47,30 +49,32 @@ fn do_over<S: Alter + Drop, O: Sink, E: Sink>(
 
 /// Does the same at the office of a database with this name, which is printed first where none of the tables is there yet. Where that
 /// cannot be printed, nothing is done.
-fn do_named<S: Alter + Drop, O: Sink, E: Sink>(
-    rt: &HostRuntime,
+fn do_named<S: Alter + Drop, P: Ports, O: Sink, E: Sink>(
+    alloc: Global,
+    ports: P,
     name: &str,
     connection: Connection<S>,
     task: Task,
     outputs: &mut Outputs<O, E>,
 ) -> (u8, Connection<S>)
     requires { CanFail outputs.old }
-    ensures told { Tells (TellsOver S.Store name.now task connection result.1) outputs.old outputs.new result.0 }
-    ensures left { LeftBy S.Store task result.0 connection result.1 }
+    ensures printed { Prints (PrintsOver S.Store (P.state ports) name.now task connection result.1) outputs.old outputs.new result.0 }
+    ensures left { LeftBy S.Store (P.state ports) task result.0 connection result.1 }
 {
     if !has_none(connection.schema()) {
-        return do_over(rt, connection, task, outputs);
+        return do_over(alloc, ports, connection, task, outputs);
     }
-    let Ok(()) = outputs.tell_new(name) else {
-        drop(task);
+    let Ok(()) = outputs.print_new(name) else {
+        drop((ports, task));
         return (1, connection);
     };
-    do_over(rt, connection, task, outputs)
+    do_over(alloc, ports, connection, task, outputs)
 }
 
 /// Does the same at the office of a database file, which is closed then: its log is copied into it.
-pub(crate) fn do_and_close<D: Disk + Drop, O: Sink, E: Sink>(
-    rt: &HostRuntime,
+pub(crate) fn do_and_close<D: Disk + Drop, P: Ports, O: Sink, E: Sink>(
+    alloc: Global,
+    ports: P,
     name: &str,
     connection: Connection<FileStore<D>>,
     task: Task,
@@ -79,8 +83,8 @@ pub(crate) fn do_and_close<D: Disk + Drop, O: Sink, E: Sink>(
     requires { CanFail outputs.old }
 
     // One connection shows what was printed and what is left, and it is the one that was closed.
-    ensures { (last : _) × Tells (TellsOver over_files name.now task connection last) outputs.old outputs.new result.0 × LeftBy over_files task result.0 connection last × IsClosing last result.1 }
+    ensures { (last : _) × Prints (PrintsOver over_files (P.state ports) name.now task connection last) outputs.old outputs.new result.0 × LeftBy over_files (P.state ports) task result.0 connection last × IsClosing last result.1 }
 {
-    let (status, connection) = do_named(rt, name, connection, task, outputs);
+    let (status, connection) = do_named(alloc, ports, name, connection, task, outputs);
     (status, close_file(connection))
 }

@@ -2,12 +2,13 @@
 
 ghost use Rattle.std.specs.Prelude.{◌≡◌, ◌⊎◌, ◌+◌, ◌^◌, ◌<◌, take, Ok, Err, IfOk, IfErr, IfSome};
 ghost use Rattle.std.specs.IoError.{error_kind};
+ghost use Rattle.world.specs.WorldState.{IsReadOf};
+ghost use Rattle.cli.specs.Imports.{IsUnreadOf};
 
 use rolls::Refusal;
 use std::alloc::Global;
-use std::fs::File;
 use std::io::{self, ErrorKind, Read};
-use std::rt::HostRuntime;
+use world::World;
 
 /// Returns what the system gave of a file, or the refusal of its error.
 fn refused_file<T: Drop>(came: io::Result<T>) -> Result<T, Refusal>
@@ -24,12 +25,18 @@ fn refused_file<T: Drop>(came: io::Result<T>) -> Result<T, Refusal>
 }
 
 /// Reads at most `most + 1` bytes of a file.
-pub(crate) fn read_file(rt: &HostRuntime, path: &str, most: usize) -> Result<Vec<u8>, Refusal>
+pub(crate) fn read_file<W: World>(
+    alloc: Global,
+    world: &W,
+    path: &str,
+    most: usize,
+) -> Result<Vec<u8>, Refusal>
     requires { most < 2 ^ 32 }
-    ensures { IfErr result (λ r. (r ≡ Refusal.Memory) ⊎ (r ≡ Refusal.Storage)) }
+    ensures ok { IfOk result (λ bytes. IsReadOf ((W.state world.now).holds path.now) most bytes.items) }
+    ensures err { IfErr result (IsUnreadOf ((W.state world.now).holds path.now)) }
 {
-    let file = refused_file(File::open(rt, path))?;
-    read_some(rt.alloc(), file, most)
+    let file = refused_file(world.read(path))?;
+    read_some(alloc, file, most)
 }
 
 /// Reads what a reader gives up to its end, or up to the first byte above the limit.

@@ -1,7 +1,6 @@
 //! The request of an import of a file, and the asking of it at the office of a database.
 
 ghost use Rattle.std.specs.Prelude.{◌≡◌, IfOk, MatchResult};
-ghost use Rattle.sqlite_wal.specs.Files.{image_at};
 ghost use Rattle.cli.specs.Outputs.{CanFail};
 ghost use Rattle.cli.specs.Databases.{AskedAt};
 ghost use Rattle.cli.specs.Imports.{IsImportOf, IsImportOfFile};
@@ -12,14 +11,13 @@ use crate::opening::Closing;
 use crate::outputs::Outputs;
 use crate::tasks::Task;
 use rolls::{Bytes, ImportKind, MAX_IMPORT_BYTES, Refusal, Request, Text};
-use sqlite::{FileFrom, Start};
-use std::alloc::AllocError;
-use std::rt::HostRuntime;
+use std::alloc::{AllocError, Global};
 use web::Sink;
+use world::World;
 
 /// Returns the request of an import of a file's bytes.
 fn import_of(
-    rt: &HostRuntime,
+    alloc: Global,
     kind: ImportKind,
     id: &str,
     bytes: Vec<u8>,
@@ -27,20 +25,20 @@ fn import_of(
     ensures { IfOk result (λ q. q ≡ Request.Import id.now kind bytes.items) }
 {
     Ok(Request::Import {
-        id: Text::of(rt.alloc(), id)?,
+        id: Text::of(alloc, id)?,
         kind,
-        bytes: Bytes::new(rt.alloc(), bytes)?,
+        bytes: Bytes::new(alloc, bytes)?,
     })
 }
 
 /// Returns the request of an import of a file's bytes, or why it is not made.
-fn import(rt: &HostRuntime, kind: ImportKind, id: &str, bytes: Vec<u8>) -> Result<Request, Refusal>
+fn import(alloc: Global, kind: ImportKind, id: &str, bytes: Vec<u8>) -> Result<Request, Refusal>
     ensures { IsImportOf id.now kind bytes.items result }
 {
     if bytes.len() > MAX_IMPORT_BYTES {
         return Err(Refusal::TooLarge);
     }
-    match import_of(rt, kind, id, bytes) {
+    match import_of(alloc, kind, id, bytes) {
         Ok(asked) => Ok(asked),
         Err(_) => Err(Refusal::Memory),
     }
@@ -48,7 +46,7 @@ fn import(rt: &HostRuntime, kind: ImportKind, id: &str, bytes: Vec<u8>) -> Resul
 
 /// Returns the request of an import of what was read of a file, or the refusal of the reading.
 fn import_read(
-    rt: &HostRuntime,
+    alloc: Global,
     kind: ImportKind,
     id: &str,
     read: Result<Vec<u8>, Refusal>,
@@ -56,36 +54,41 @@ fn import_read(
     ensures { MatchResult read (λ bytes. IsImportOf id.now kind bytes.items result) (λ refusal. result ≡ Err refusal) }
 {
     match read {
-        Ok(bytes) => import(rt, kind, id, bytes),
+        Ok(bytes) => import(alloc, kind, id, bytes),
         Err(refusal) => Err(refusal),
     }
 }
 
 /// Returns the request of an import of a file, or why it is not made.
-pub(crate) fn import_file(
-    rt: &HostRuntime,
+pub(crate) fn import_file<W: World>(
+    alloc: Global,
+    world: &W,
     kind: ImportKind,
     id: &str,
     file: &str,
 ) -> Result<Request, Refusal>
-    ensures { IsImportOfFile id.now kind result }
+    ensures { IsImportOfFile ((W.state world.now).holds file.now) id.now kind result }
 {
-    import_read(rt, kind, id, read_file(rt, file, MAX_IMPORT_BYTES))
+    let read = read_file(alloc, world, file, MAX_IMPORT_BYTES);
+    import_read(alloc, kind, id, read)
 }
 
 /// Asks a request of the office of a database file, as `do_on` does, or prints why it was not made.
-pub(crate) fn ask_made<S: Start, O: Sink, E: Sink>(
-    rt: &HostRuntime,
-    start: S,
+pub(crate) fn ask_made<W: World, O: Sink, E: Sink>(
+    alloc: Global,
+    world: W,
     database: &str,
     made: Result<Request, Refusal>,
     outputs: &mut Outputs<O, E>,
-) -> (u8, Option<Closing<FileFrom<S>>>)
+) -> (u8, Option<Closing<W::File>>)
     requires { CanFail outputs.old }
-    ensures { AskedAt (image_at S.Start) database.now made result.1 outputs.old outputs.new result.0 }
+    ensures { AskedAt (W.state world) database.now made result.1 outputs.old outputs.new result.0 }
 {
     match made {
-        Ok(asked) => do_on(rt, start, database, Task::Ask(asked), outputs),
-        Err(refusal) => (outputs.refuse(refusal), None),
+        Ok(asked) => do_on(alloc, world, database, Task::Ask(asked), outputs),
+        Err(refusal) => {
+            drop(world);
+            (outputs.refuse(refusal), None)
+        }
     }
 }

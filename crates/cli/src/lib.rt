@@ -27,6 +27,6 @@ mod unread;
 
 pub use opening::Closing;
 pub use outputs::Outputs;
-pub use program::{begin, serve_anew, start};
-pub use run::{line, tell_line, tell_unread};
+pub use program::{begin, do_all, serve_anew, start};
+pub use run::{line, print_unread, run_command};
 pub use unread::Unread;

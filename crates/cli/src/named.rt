@@ -2,34 +2,33 @@
 
 ghost use Rattle.cli.specs.Outputs.{CanFail};
 ghost use Rattle.cli.specs.Databases.{DoneAt};
-ghost use Rattle.sqlite_wal.specs.Files.{image_at};
 
 use crate::databases::do_and_close;
 use crate::opening::{Closing, open_file};
 use crate::outputs::Outputs;
 use crate::tasks::Task;
-use sqlite::{FileFrom, Start};
-use std::rt::HostRuntime;
+use std::alloc::Global;
 use web::Sink;
+use world::World;
 
-/// Does a task at the office of the database file with this name, whose first contents these are, or prints the refusal of the opening.
+/// Does a task at the office of the database file with this name, or prints the refusal of the opening.
 /// Prints first that the database is new, where it is. Closes the file then, and gives back what came of it.
 ///
 /// A closing that fails changes neither what was printed nor the status: what was changed is in the log next to the file, where
 /// the next opening finds it.
-pub(crate) fn do_on<S: Start, O: Sink, E: Sink>(
-    rt: &HostRuntime,
-    start: S,
+pub(crate) fn do_on<W: World, O: Sink, E: Sink>(
+    alloc: Global,
+    world: W,
     database: &str,
     task: Task,
     outputs: &mut Outputs<O, E>,
-) -> (u8, Option<Closing<FileFrom<S>>>)
+) -> (u8, Option<Closing<W::File>>)
     requires { CanFail outputs.old }
-    ensures { DoneAt (image_at S.Start) database.now task result.1 outputs.old outputs.new result.0 }
+    ensures { DoneAt (W.state world) database.now task result.1 outputs.old outputs.new result.0 }
 {
-    match open_file(rt, database, start) {
-        Ok(connection) => {
-            let (status, closing) = do_and_close(rt, database, connection, task, outputs);
+    match open_file(world, database) {
+        Ok((connection, ports)) => {
+            let (status, closing) = do_and_close(alloc, ports, database, connection, task, outputs);
             (status, Some(closing))
         }
         Err(refusal) => {

@@ -1,19 +1,20 @@
 //! A database file: it is opened by its name, and closed.
 
-ghost use Rattle.std.specs.Prelude.{◌≡◌, ◌⊎◌, IfOk, IfErr, false};
+ghost use Rattle.std.specs.Prelude.{◌≡◌, ℕ, IfOk, IfErr, false};
 ghost use Rattle.sqlite_wal.specs.Reads.{AreClean};
 ghost use Rattle.sqlite_trees.specs.View.{IsClean};
 ghost use Rattle.sqlite_store.specs.FileStore.{view};
 ghost use Rattle.sqlite.specs.Files.{IsBlankAs, IsClosed, IsOpened, FailsToClose, file_state};
 ghost use Rattle.sqlite.specs.Start.{FindsIn};
 ghost use Rattle.sqlite.specs.State.{HasCleanDisk};
-ghost use Rattle.sqlite_wal.specs.Files.{image_at};
 ghost use Rattle.sqlite.specs.Closing.{IsCopied};
+ghost use Rattle.world.specs.WorldState.{Within};
+ghost use Rattle.cli.specs.Databases.{IsRefusalOf};
 
 use rolls::Refusal;
-use sqlite::{Connection, Error, ErrorCode, FileFrom, FileStore, Files, Start};
+use sqlite::{Connection, Error, ErrorCode, FileStore, Files};
 use sqlite_disk::Disk;
-use std::rt::HostRuntime;
+use world::World;
 
 /// What comes of closing a database file: its files, or why it is not closed, and what is left of it.
 pub type Closing<D> = Result<Files<D>, (Error, FileStore<D>)>;
@@ -30,21 +31,19 @@ fn refusal_of(error: Error) -> Refusal
 }
 
 /// Opens the database file with this name; a file that is not there is made.
-pub(crate) fn open_file<S: Start>(
-    rt: &HostRuntime,
+pub(crate) fn open_file<W: World>(
+    world: W,
     database: &str,
-    start: S,
-) -> Result<Connection<FileStore<FileFrom<S>>>, Refusal>
-    ensures kinds { IfErr result (λ r. (r ≡ Refusal.Memory) ⊎ (r ≡ Refusal.Storage)) }
-    ensures found { IfOk result (λ c. HasCleanDisk (file_state c) → FindsIn (image_at S.Start) (file_state c)) }
-    ensures opened { IfOk result (λ c. HasCleanDisk (file_state c) → IsOpened c) }
-
-    // A file that is new is one that any other program for SQLite files reads and writes.
-    ensures plain { IfOk result (λ c. HasCleanDisk (file_state c) → IsBlankAs false (image_at S.Start) → (view c.store).has_sums ≡ false) }
+) -> Result<(Connection<FileStore<W::File>>, W::Ports), Refusal>
+    ensures found { IfOk result (λ c. HasCleanDisk (file_state c.0) → FindsIn ((W.state world).image database.now) (file_state c.0)) }
+    ensures opened { IfOk result (λ c. HasCleanDisk (file_state c.0) → IsOpened c.0) }
+    ensures plain { IfOk result (λ c. HasCleanDisk (file_state c.0) → IsBlankAs false ((W.state world).image database.now) → (view c.0.store).has_sums ≡ false) }
+    ensures ports { IfOk result (λ c. (port : ℕ) → Within (W.Ports.state c.1 port) ((W.state world).ports port)) }
+    ensures refused { IfErr result (λ r. (error : Error) × (W.state world).refuses database.now error × IsRefusalOf error r) }
 {
-    match Connection::open_from(rt, database, false, start) {
-        Ok(connection) => Ok(connection),
-        Err((error, _)) => Err(refusal_of(error)),
+    match world.open(database) {
+        Ok(opened) => Ok(opened),
+        Err(error) => Err(refusal_of(error)),
     }
 }
 

@@ -1,8 +1,8 @@
 //! What a line writes to: standard output and standard error.
 
 ghost use Rattle.std.specs.Prelude.{◌≡◌, ◌+◌, [], OnOk, OnErr};
-ghost use Rattle.cli.specs.Outputs.{CanFail, HasTold, both_failures};
-ghost use Rattle.cli.specs.Outcomes.{Tells, tells, prints, refused, new_database, printed_reply};
+ghost use Rattle.cli.specs.Outputs.{CanFail, HasPrinted, both_failures};
+ghost use Rattle.cli.specs.Outcomes.{Prints, prints_err, prints, refused, new_database, printed_reply};
 
 use crate::printing::{print, print_reply, refuse, write_new};
 use rolls::{Refusal, Reply};
@@ -39,7 +39,7 @@ impl<O: Sink, E: Sink> Outputs<O, E> {
     /// Prints a result with this status.
     pub(crate) fn print(&mut self, text: &[u8], status: u8) -> u8
         requires { CanFail self.old }
-        ensures { Tells (λ o. o ≡ record { out = text.now; err = []; status = status }) self.old self.new result }
+        ensures { Prints (λ o. o ≡ record { out = text.now; err = []; status = status }) self.old self.new result }
     {
         print(&mut self.out, text, status)
     }
@@ -47,23 +47,23 @@ impl<O: Sink, E: Sink> Outputs<O, E> {
     /// Prints what is printed of an answer.
     pub(crate) fn print_reply(&mut self, reply: &Reply) -> u8
         requires { CanFail self.old }
-        ensures { Tells (λ o. o ≡ prints (printed_reply reply.now)) self.old self.new result }
+        ensures { Prints (λ o. o ≡ prints (printed_reply reply.now)) self.old self.new result }
     {
         print_reply(&mut self.out, reply)
     }
 
     /// Prints a message with this status.
-    pub(crate) fn tell(&mut self, text: &[u8], status: u8) -> u8
+    pub(crate) fn print_err(&mut self, text: &[u8], status: u8) -> u8
         requires { CanFail self.old }
-        ensures { Tells (λ o. o ≡ tells status text.now) self.old self.new result }
+        ensures { Prints (λ o. o ≡ prints_err status text.now) self.old self.new result }
     {
         print(&mut self.err, text, status)
     }
 
     /// Prints that the database with this name is new.
-    pub(crate) fn tell_new(&mut self, name: &str) -> Result<(), StreamFault>
+    pub(crate) fn print_new(&mut self, name: &str) -> Result<(), StreamFault>
         requires { CanFail self.old }
-        ensures ok { OnOk result (HasTold (new_database name.now) self.old self.new) }
+        ensures ok { OnOk result (HasPrinted (new_database name.now) self.old self.new) }
         ensures err { OnErr result (both_failures self.new ≡ both_failures self.old + 1) }
     {
         write_new(&mut self.err, name)
@@ -72,7 +72,7 @@ impl<O: Sink, E: Sink> Outputs<O, E> {
     /// Prints a refusal.
     pub(crate) fn refuse(&mut self, refusal: Refusal) -> u8
         requires { CanFail self.old }
-        ensures { Tells (λ o. o ≡ refused refusal) self.old self.new result }
+        ensures { Prints (λ o. o ≡ refused refusal) self.old self.new result }
     {
         refuse(&mut self.err, refusal)
     }

@@ -3,7 +3,7 @@
 ghost use Rattle.std.specs.Prelude.{◌≡◌, ◌-◌, ◌^◌, ◌<◌, ◌+◌, OnOk, OnErr};
 ghost use Rattle.std.specs.Io.KnownBytes.{Appends};
 ghost use Rattle.cli.specs.Outputs.{CanFail};
-ghost use Rattle.cli.specs.Outcomes.{Printed, Tells, new_database, refusal_line, of_round, printed_reply};
+ghost use Rattle.cli.specs.Outcomes.{Printed, Prints, new_database, refusal_line, of_round, printed_reply};
 
 use crate::outputs::Outputs;
 use crate::texts::{bad_line, closed_line, labelled, refusal_line};
@@ -65,17 +65,17 @@ pub(crate) fn print_reply<W: Sink>(out: &mut W, reply: &Reply) -> u8
 }
 
 /// Prints what came of the text of a round file.
-pub(crate) fn tell_round<O: Sink, E: Sink>(
+pub(crate) fn print_round<O: Sink, E: Sink>(
     came: Result<String, Trouble>,
     outputs: &mut Outputs<O, E>,
 ) -> u8
     requires { CanFail outputs.old }
-    ensures { Tells (λ o. o ≡ of_round came) outputs.old outputs.new result }
+    ensures { Prints (λ o. o ≡ of_round came) outputs.old outputs.new result }
 {
     match came {
         Ok(text) => outputs.print(text.as_bytes(), 0),
         Err(Trouble::Failed(text)) => outputs.print(text.as_bytes(), 1),
         Err(Trouble::Refused(refusal)) => outputs.refuse(refusal),
-        Err(Trouble::BadLine(number)) => outputs.tell(bad_line(number).as_slice(), 1),
+        Err(Trouble::BadLine(number)) => outputs.print_err(bad_line(number).as_slice(), 1),
     }
 }

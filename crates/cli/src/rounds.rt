@@ -2,18 +2,18 @@
 
 ghost use Rattle.std.specs.Prelude.{◌≡◌, MatchResult};
 ghost use Rattle.cli.specs.Outputs.{CanFail};
-ghost use Rattle.cli.specs.Outcomes.{Tells, OnFile};
+ghost use Rattle.cli.specs.Outcomes.{Prints, OnFile};
 ghost use Rattle.cli.specs.Inside.Rounds.{ComesBy};
 
 use crate::files::read_file;
 use crate::outputs::Outputs;
-use crate::printing::tell_round;
+use crate::printing::print_round;
 use intake::MAX_BYTES;
 use rolls::Refusal;
 use round_files::{Trouble, checked, solved};
 use std::alloc::Global;
-use std::rt::HostRuntime;
 use web::Sink;
+use world::World;
 
 /// What a line does with the round of a file.
 #[derive(Clone, Copy, Drop)]
@@ -38,15 +38,16 @@ fn do_read(alloc: Global, way: RoundTask, read: Result<Vec<u8>, Refusal>) -> Res
 }
 
 /// Does this with the round of a file, and prints what comes of it.
-pub(crate) fn do_file<O: Sink, E: Sink>(
-    rt: &HostRuntime,
+pub(crate) fn do_file<W: World, O: Sink, E: Sink>(
+    alloc: Global,
+    world: &W,
     way: RoundTask,
     file: &str,
     outputs: &mut Outputs<O, E>,
 ) -> u8
     requires { CanFail outputs.old }
-    ensures { Tells (OnFile (ComesBy way)) outputs.old outputs.new result }
+    ensures { Prints (OnFile ((W.state world.now).holds file.now) (ComesBy way)) outputs.old outputs.new result }
 {
-    let came = do_read(rt.alloc(), way, read_file(rt, file, MAX_BYTES));
-    tell_round(came, outputs)
+    let came = do_read(alloc, way, read_file(alloc, world, file, MAX_BYTES));
+    print_round(came, outputs)
 }

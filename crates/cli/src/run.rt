@@ -2,8 +2,7 @@
 
 ghost use Rattle.std.specs.Prelude.{◌-◌, ◌^◌, ◌<◌, ◌≤◌, map, string_bytes};
 ghost use Rattle.cli.specs.Outputs.{CanFail};
-ghost use Rattle.sqlite_wal.specs.Files.{image_at};
-ghost use Rattle.cli.specs.Outcomes.{Printed, Tells, ComesTo, of_unread};
+ghost use Rattle.cli.specs.Outcomes.{Printed, Prints, ComesTo, of_unread};
 ghost use Rattle.cli.specs.Databases.{LineAt, WordsAt};
 
 use crate::importing::{ask_made, import_file};
@@ -17,21 +16,23 @@ use crate::texts::NOT_UTF8;
 use crate::unread::Unread;
 use commands::{Line, LineFault, command};
 use rolls::{Plain, Refusal, Request};
-use sqlite::{FileFrom, Start, Unknown};
+use sqlite::Unknown;
+use std::alloc::Global;
 use std::io::Write;
 use std::rt::HostRuntime;
 use web::{Sink, Watched};
+use world::{Machine, World};
 
 /// Does a line, and prints what comes of it. A file is read first, then a database is opened, then a port is bound, and then the
 /// request is judged.
-fn do_line<S: Start, O: Sink, E: Sink>(
-    rt: &HostRuntime,
-    start: S,
+fn do_line<W: World, O: Sink, E: Sink>(
+    alloc: Global,
+    world: W,
     line: Line,
     outputs: &mut Outputs<O, E>,
-) -> (u8, Option<Closing<FileFrom<S>>>)
+) -> (u8, Option<Closing<W::File>>)
     requires { CanFail outputs.old }
-    ensures { LineAt (image_at S.Start) line result.1 outputs.old outputs.new result.0 }
+    ensures { LineAt (W.state world) line result.1 outputs.old outputs.new result.0 }
 {
     match line {
         Line::Serve {
@@ -39,8 +40,8 @@ fn do_line<S: Start, O: Sink, E: Sink>(
             port,
             count,
         } => do_on(
-            rt,
-            start,
+            alloc,
+            world,
             &database,
             Task::Serve(Serving { port, count }),
             outputs,
@@ -50,24 +51,21 @@ fn do_line<S: Start, O: Sink, E: Sink>(
             kind,
             id,
             file,
-        } => ask_made(
-            rt,
-            start,
-            &database,
-            import_file(rt, kind, &id, &file),
-            outputs,
-        ),
+        } => {
+            let made = import_file(alloc, &world, kind, &id, &file);
+            ask_made(alloc, world, &database, made, outputs)
+        }
         Line::OpenRound { database, aim } => {
             let asked = Request::Plain(Plain::OpenRound { aim });
-            do_on(rt, start, &database, Task::Ask(asked), outputs)
+            do_on(alloc, world, &database, Task::Ask(asked), outputs)
         }
         Line::ReopenRound(database) => {
             let asked = Request::Plain(Plain::ReopenRound);
-            do_on(rt, start, &database, Task::Ask(asked), outputs)
+            do_on(alloc, world, &database, Task::Ask(asked), outputs)
         }
         Line::CloseRound(database) => do_on(
-            rt,
-            start,
+            alloc,
+            world,
             &database,
             Task::Ask(Request::Close),
             outputs,
@@ -78,43 +76,49 @@ fn do_line<S: Start, O: Sink, E: Sink>(
             round,
         } => {
             let asked = Request::Report { kind, round };
-            do_on(rt, start, &database, Task::Ask(asked), outputs)
+            do_on(alloc, world, &database, Task::Ask(asked), outputs)
         }
-        Line::Solve(file) => (do_file(rt, RoundTask::Solve, &file, outputs), None),
-        Line::Check(file) => (do_file(rt, RoundTask::Check, &file, outputs), None),
+        Line::Solve(file) => (
+            do_file(alloc, &world, RoundTask::Solve, &file, outputs),
+            None,
+        ),
+        Line::Check(file) => (
+            do_file(alloc, &world, RoundTask::Check, &file, outputs),
+            None,
+        ),
     }
 }
 
 /// Does the line of these words, the program's name first, and gives the status of the program, and what came of
-/// closing the database file, where one was opened. These are its first contents.
+/// closing the database file, where one was opened.
 ///
 /// A result is printed with status 0, and a check that failed with status 1. A refusal, a bad line of a round text or a port
 /// that cannot be bound is printed with status 1, a fault of the line with status 2, and help or the version is printed with status 0.
 /// Where a writer fails, the status is 1, and what was done stays done.
-pub fn tell_line<S: Start, O: Sink, E: Sink>(
-    rt: &HostRuntime,
-    start: S,
+pub fn run_command<W: World, O: Sink, E: Sink>(
+    alloc: Global,
+    world: W,
     words: &[String],
     outputs: &mut Outputs<O, E>,
-) -> (u8, Option<Closing<FileFrom<S>>>)
+) -> (u8, Option<Closing<W::File>>)
     requires { CanFail outputs.old }
-    ensures told { Tells (ComesTo (map string_bytes words.now)) outputs.old outputs.new result.0 }
-    ensures file { WordsAt (image_at S.Start) (map string_bytes words.now) result.1 outputs.old outputs.new result.0 }
+    ensures printed { Prints (ComesTo (map string_bytes words.now)) outputs.old outputs.new result.0 }
+    ensures file { WordsAt (W.state world) (map string_bytes words.now) result.1 outputs.old outputs.new result.0 }
 {
-    match command(rt.alloc(), words) {
-        Ok(line) => do_line(rt, start, line, outputs),
+    match command(alloc, words) {
+        Ok(line) => do_line(alloc, world, line, outputs),
         Err(LineFault::Memory) => (outputs.refuse(Refusal::Memory), None),
         Err(LineFault::Help(text)) => (outputs.print(text.as_bytes(), 0), None),
         Err(LineFault::Version(text)) => (outputs.print(text.as_bytes(), 0), None),
-        Err(LineFault::Fault(text)) => (outputs.tell(text.as_bytes(), 2), None),
+        Err(LineFault::Fault(text)) => (outputs.print_err(text.as_bytes(), 2), None),
     }
 }
 
 /// Prints on `err` why the arguments of the program cannot be read, and gives the status of the program: 1 where there was no
 /// memory for them, as a refusal, and 2 where one is not UTF-8, which is a fault of the line. Where the writer fails it is 1.
-pub fn tell_unread<E: Sink>(unread: Unread, err: &mut E) -> u8
+pub fn print_unread<E: Sink>(unread: Unread, err: &mut E) -> u8
     requires { E.failures err.old < 2 ^ 64 - 1 }
-    ensures { let told = of_unread unread in Printed told.err told.status (E.written err.old) (E.written err.new) (E.failures err.old) (E.failures err.new) result }
+    ensures { let printed = of_unread unread in Printed printed.err printed.status (E.written err.old) (E.written err.new) (E.failures err.old) (E.failures err.new) result }
 {
     match unread {
         Unread::Memory => refuse(err, Refusal::Memory),
@@ -122,7 +126,7 @@ pub fn tell_unread<E: Sink>(unread: Unread, err: &mut E) -> u8
     }
 }
 
-/// Does the line of these words with any two writers, as `tell_line` does.
+/// Does the line of these words with any two writers, as `run_command` does.
 pub fn line<O: Write + Drop, E: Write + Drop>(
     rt: &HostRuntime,
     words: Vec<String>,
@@ -132,6 +136,11 @@ pub fn line<O: Write + Drop, E: Write + Drop>(
     ensures { result ≤ 2 }
 {
     let mut outputs = Outputs::new(Watched::new(out), Watched::new(err));
-    let (status, _closing) = tell_line(rt, Unknown, &words, &mut outputs);
+    let (status, _closing) = run_command(
+        rt.alloc(),
+        Machine::new(*rt, Unknown),
+        &words,
+        &mut outputs,
+    );
     status
 }

@@ -4,9 +4,9 @@ use Rattle.std.specs.Prelude.{IsPermutation}
 use Rattle.std.proofs.lemmas.List.{map-append}
 use Rattle.std.proofs.lemmas.List.Sorted.{IsPermutation-refl, IsPermutation-map}
 use Rattle.sqlite_keyed.proofs.ListLemmas.{map-map}
-use Rattle.row_data.specs.declared.row.Change.TheVariants.{Put}
-use Rattle.row_data.specs.declared.table.Table.TheVariants.{Placement}
-use Rattle.row_data.specs.Changes.{TurnsRows}
+use Rattle.row_model.specs.declared.row.Change.TheVariants.{Put}
+use Rattle.row_model.specs.declared.table.Table.TheVariants.{Placement}
+use Rattle.row_model.specs.Changes.{TransformsRows}
 use Rattle.rolls.specs.declared.rounds.Placement.{Placement as PlacementEntry}
 use Rattle.rolls.specs.Roll.{put_all}
 use Rattle.rolls.specs.Rows.{placement_cells, rows_in}
@@ -14,21 +14,21 @@ use Rattle.rolls.specs.State.{State, placement_key, last_round}
 use Rattle.rolls.specs.Stepping.{with_last}
 use Rattle.rolls.specs.Closing.{kept, after_close}
 use Rattle.rolls.proofs.LastRound.{open_within}
-use Rattle.row_lists.proofs.Keyed.{all_beside}
-use Rattle.row_lists.proofs.Changes.{SameElsewhere, add, added_turns, turns_follow}
-use Rattle.row_lists.proofs.KeyTests.{code_test}
-use Rattle.row_lists.proofs.OneRow.{rows_free}
-use Rattle.row_lists.proofs.Rounds.{round_turns}
-use Rattle.row_lists.proofs.Same.{from_same}
+use Rattle.change_laws.proofs.Keyed.{all_beside}
+use Rattle.change_laws.proofs.Changes.{SameElsewhere, add, added_transforms, transforms_follow}
+use Rattle.change_laws.proofs.KeyTests.{code_test}
+use Rattle.change_laws.proofs.OneRow.{rows_free}
+use Rattle.change_laws.proofs.Rounds.{round_transforms}
+use Rattle.change_laws.proofs.Same.{from_same}
 use Rattle.closing.specs.Changes.{placement_added}
-use Rattle.closing.specs.Laws.{ClosingTurns}
+use Rattle.closing.specs.Laws.{ClosingTransforms}
 use Rattle.closing.proofs.Unplaced.{pairs_new}
 
-pub close_turns : ClosingTurns
-close_turns M o fit may =
-    turns_follow (Put _ ∷ []) (map placement_added placed) (rows_in o) (rows_in closed) (rows_in (after_close M o)) (round_turns o fit (open_within o fit.numbered (last_round o) may.is_open).positive false)
-    (subst (λ cs. TurnsRows cs (rows_in closed) (rows_in (after_close M o))) (map-map (add Placement) placement_cells placed)
-    (added_turns Placement (map placement_cells placed) (rows_in closed) (rows_in (after_close M o))
+pub close_transforms : ClosingTransforms
+close_transforms M o fit may =
+    transforms_follow (Put _ ∷ []) (map placement_added placed) (rows_in o) (rows_in closed) (rows_in (after_close M o)) (round_transforms o fit (open_within o fit.numbered (last_round o) may.is_open).positive false)
+    (subst (λ cs. TransformsRows cs (rows_in closed) (rows_in (after_close M o))) (map-map (add Placement) placement_cells placed)
+    (added_transforms Placement (map placement_cells placed) (rows_in closed) (rows_in (after_close M o))
     (rows_free placement_key placement_cells Placement (λ e x. code_test e.student x.student) placed o.placements (pairs_new M o fit may)) here others))
   where
     placed : List PlacementEntry

@@ -25,7 +25,7 @@ use Rattle.rolls.proofs.Positions.{fit_rolls}
 use Rattle.closing.specs.Inside.Handed as handed
 use Rattle.closing.specs.Handed.{AreParts, ArePartsOfFit}
 use Rattle.closing.proofs.Entries.{all_made}
-use Rattle.row_lists.proofs.Determine.{rises_made}
+use Rattle.change_laws.proofs.Determine.{rises_made}
 use Rattle.rolls.proofs.NoMoreThanFound.{few_lists}
 use Rattle.closing.proofs.UniqueCodes.{code_key, apart_since_rise, apart_since_distinct, contains_found, all_at}
 

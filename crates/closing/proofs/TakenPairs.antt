@@ -3,16 +3,16 @@
 use Rattle.std.proofs.Common.{List, map, ◌≡◌, sym, ap, ◌∙◌, subst}
 use Rattle.spa.specs.Coded.{CodePair, taken, CodesSayTheSame}
 use Rattle.rolls.specs.declared.rounds.Placement.{Placement}
-use Rattle.row_data.specs.declared.row.Change.{Change}
+use Rattle.row_model.specs.declared.row.Change.{Change}
 use Rattle.rolls.specs.State.{last_round}
 use Rattle.rolls.specs.Instances.{round_instance}
 use Rattle.rolls.specs.Fit.{IsFit}
 use Rattle.rolls.specs.Closing.{MayClose, kept, after_close}
-use Rattle.rolls.specs.Rows.{Turns}
+use Rattle.rolls.specs.Rows.{Transforms}
 use Rattle.closing.specs.Changes.{after_placing, placed_reply, closing_changes, close_changes}
 use Rattle.closing.specs.Laws.{PlacesClose}
 use Rattle.closing.proofs.Kept.{close_keeps_fit}
-use Rattle.closing.proofs.ClosingRows.{close_turns}
+use Rattle.closing.proofs.ClosingRows.{close_transforms}
 use Rattle.closing.proofs.PairsByCode.{places_taken}
 use Rattle.closing.proofs.PlacesAreRanks.{within_lists, placed_is_kept}
 use Rattle.closing.proofs.SizeAndProfile.{kept_is_counted}
@@ -29,7 +29,7 @@ places_close law o ks fit opened are placed made =
       closed = λ done answered changed. record {
         after = after;
         reply = answered ∙ ap (placed_reply (last_round o)) all ∙ kept_is_counted M o;
-        changes = subst (λ (cs : List Change). Turns cs o (after_placing placed o)) (sym (changed ∙ ap (closing_changes (last_round o)) all))
-            (subst (Turns (close_changes M o) o) (sym after) (close_turns M o fit may));
+        changes = subst (λ (cs : List Change). Transforms cs o (after_placing placed o)) (sym (changed ∙ ap (closing_changes (last_round o)) all))
+            (subst (Transforms (close_changes M o) o) (sym after) (close_transforms M o fit may));
       };
     }

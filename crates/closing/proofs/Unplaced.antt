@@ -18,7 +18,7 @@ use Rattle.rolls.proofs.EntryChange.{all_weaker, bytes_self, same_bytes, same_co
 use Rattle.rolls.proofs.Found.{found_key, holds_of_found}
 use Rattle.rolls.proofs.LastRound.{closed_before}
 use Rattle.rolls.proofs.NoMoreThanFound.{all_two}
-use Rattle.row_lists.proofs.Keyed.{AreNew}
+use Rattle.change_laws.proofs.Keyed.{AreNew}
 use Rattle.closing.proofs.Kept.{pairs_listed}
 
 -- ---- no student twice

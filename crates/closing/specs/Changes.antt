@@ -2,9 +2,9 @@
 use Rattle.std.specs.Prelude.{ℕ, ◌+◌, ◌==◌, ◌&&◌, false, List, ◌∷◌, map, length, count_by}
 use Rattle.spa.specs.Coded.{CodePair}
 use Rattle.rolls.specs.declared.rounds.Placement.{Placement}
-use Rattle.row_data.specs.declared.table.Table.TheVariants.{Placement as PlacementTable}
-use Rattle.row_data.specs.declared.row.Change.{Change}
-use Rattle.row_data.specs.declared.row.Change.TheVariants.{Put, Add}
+use Rattle.row_model.specs.declared.table.Table.TheVariants.{Placement as PlacementTable}
+use Rattle.row_model.specs.declared.row.Change.{Change}
+use Rattle.row_model.specs.declared.row.Change.TheVariants.{Put, Add}
 use Rattle.rolls.specs.declared.request.Reply.{Reply}
 use Rattle.rolls.specs.declared.request.Reply.TheVariants as reply
 use Rattle.rolls.specs.Roll.{put_all}

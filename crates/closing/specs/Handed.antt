@@ -1,11 +1,14 @@
 -- The parts of an office that the instance of a round is made of.
-use Rattle.std.specs.Prelude.{◌≡◌, ℕ, List}
+use Rattle.std.specs.Prelude.{◌≡◌, ℕ, List, Option}
+use Rattle.spa.specs.Instance.{Instance}
 use Rattle.rolls.specs.declared.entries.Supervisor.{Supervisor}
 use Rattle.rolls.specs.declared.entries.Project.{Project}
 use Rattle.rolls.specs.declared.rounds.Listed.{Listed}
 use Rattle.rolls.specs.declared.rounds.Placement.{Placement}
 use Rattle.rolls.specs.State.{State, lists_of}
+use Rattle.rolls.specs.Counted.{count_in, count_with}
 use Rattle.rolls.specs.Fit.{IsFit}
+use Rattle.rolls.specs.Instances.{instance_left}
 
 -- these are the parts of the office, with the lists of the round n
 pub record AreParts (o : State) (n : ℕ) (supervisors : List Supervisor) (projects : List Project) (placements : List Placement) (lists : List Listed) : Type 0 where
@@ -20,3 +23,9 @@ pub record ArePartsOfFit (supervisors : List Supervisor) (projects : List Projec
   pub fit : IsFit office
   pub round : ℕ
   pub parts : AreParts office round supervisors projects placements lists
+
+-- the instance of a round of the office of these parts, with the quotas less what the rounds up to one placed, or all rounds
+abbrev pub IsInstanceLeft : Option ℕ → List Supervisor → List Project → List Placement → List Listed → Instance → Type 0
+IsInstanceLeft up_to supervisors projects placements lists instance =
+    (o : State) (n : ℕ) → AreParts o n supervisors projects placements lists
+    → instance ≡ instance_left (count_with up_to o.projects o.placements) (count_in up_to o.placements) o n

@@ -10,7 +10,7 @@ use Rattle.rolls.specs.Closing.{MayClose, kept, after_close, closed_reply}
 use Rattle.rolls.specs.Answers.{IsClosed}
 use Rattle.rolls.specs.declared.rounds.Placement.{Placement}
 use Rattle.rolls.specs.declared.request.Done.{Done}
-use Rattle.rolls.specs.Rows.{Turns}
+use Rattle.rolls.specs.Rows.{Transforms}
 use Rattle.closing.specs.Places.{placed_by, ArePlacesIn, ArePlacesOf, AreTaken}
 use Rattle.closing.specs.Changes.{after_placing, placed_reply, closing_changes, close_changes}
 
@@ -19,8 +19,8 @@ abbrev pub ClosingKeepsFit : Type 0
 ClosingKeepsFit = (M : List CodePair) (o : State) → IsFit o → MayClose o M → IsFit (after_close M o)
 
 -- the changes of a round that closes transform the rows of the office before into those after
-abbrev pub ClosingTurns : Type 0
-ClosingTurns = (M : List CodePair) (o : State) → IsFit o → MayClose o M → Turns (close_changes M o) o (after_close M o)
+abbrev pub ClosingTransforms : Type 0
+ClosingTransforms = (M : List CodePair) (o : State) → IsFit o → MayClose o M → Transforms (close_changes M o) o (after_close M o)
 
 -- the placements that keep a matching are counted as its pairs are
 abbrev pub KeptIsCounted : Type 0

@@ -1,13 +1,13 @@
 //! Laws of rounds that close: functions with nothing to do, whose contracts are the laws.
 #![tactic(auto)]
 
-ghost use Rattle.closing.specs.Laws.{ClosingKeepsFit, ClosingTurns, KeptIsCounted, PlacesAreTaken, PlacesAreInLists, PlacedIsKept, PlacesClose, AreFew};
+ghost use Rattle.closing.specs.Laws.{ClosingKeepsFit, ClosingTransforms, KeptIsCounted, PlacesAreTaken, PlacesAreInLists, PlacedIsKept, PlacesClose, AreFew};
 
 /// An office whose open round closes with a matching stays fit, the changes of closing transform its rows, and its placements are
 /// counted in the matching.
 pub fn closing_law()
     ensures fit { ClosingKeepsFit }
-    ensures turned { ClosingTurns }
+    ensures turned { ClosingTransforms }
     ensures counted { KeptIsCounted }
 {}
 

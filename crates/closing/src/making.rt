@@ -3,11 +3,9 @@
 ghost use Rattle.std.specs.Prelude.{◌≡◌, ◌≤◌, ℕ, List, map, length, Option, None, IfOk};
 ghost use Rattle.spa.specs.declared.TheConstants.{MAX_PROJECTS, MAX_SUPERVISORS};
 ghost use Rattle.spa.specs.Named.{instance_of};
-ghost use Rattle.rolls.specs.State.{State};
-ghost use Rattle.rolls.specs.Instances.{instance_left};
-ghost use Rattle.rolls.specs.Counted.{count_in, count_with, offers, AreCounted};
-ghost use Rattle.closing.specs.Handed.{AreParts, ArePartsOfFit};
-ghost use Rattle.closing.specs.Inside.Handed.{supervisor_left, project_left, student_listed};
+ghost use Rattle.rolls.specs.Counted.{count_in, count_with, offers};
+ghost use Rattle.closing.specs.Handed.{ArePartsOfFit, IsInstanceLeft};
+ghost use Rattle.closing.specs.Inside.Handed.{AreProjectsLeft, AreSupervisorsLeft, student_listed};
 
 use rolls::{Choices, Entries, Listed, Placement, Project, Supervisor, counted};
 use spa::{Code, Counts, Instance, InstanceFault};
@@ -54,7 +52,7 @@ fn supervisors_left(
     counts: &Counts,
 ) -> Result<Vec<(Code, u32)>, AllocError>
     requires { length supervisors.now ≤ MAX_SUPERVISORS }
-    ensures { IfOk result (λ roll. (up_to : Option ℕ) (projects : List Project) (placements : List Placement) → AreCounted up_to supervisors.now projects placements counts.now → roll.items ≡ map (supervisor_left up_to projects placements) supervisors.now) }
+    ensures { IfOk result (λ roll. AreSupervisorsLeft supervisors.now counts.now roll.items) }
 {
     let mut roll = Vec::new(alloc);
     for position in 0..supervisors.len() {
@@ -72,7 +70,7 @@ fn projects_left(
     counts: &Counts,
 ) -> Result<Vec<(Code, Code, u32)>, AllocError>
     requires { length projects.now ≤ MAX_PROJECTS }
-    ensures { IfOk result (λ roll. (up_to : Option ℕ) (supervisors : List Supervisor) (placements : List Placement) → AreCounted up_to supervisors projects.now placements counts.now → roll.items ≡ map (project_left up_to placements) projects.now) }
+    ensures { IfOk result (λ roll. AreProjectsLeft projects.now counts.now roll.items) }
 {
     let mut roll = Vec::new(alloc);
     for position in 0..projects.len() {
@@ -116,7 +114,7 @@ pub fn round_instance(
     lists: &[Listed],
 ) -> Result<Instance, AllocError>
     requires { ArePartsOfFit supervisors.now projects.now placements.now lists.now }
-    ensures { IfOk result (λ i. (o : State) (n : ℕ) → AreParts o n supervisors.now projects.now placements.now lists.now → instance_of i ≡ instance_left (count_with up_to o.projects o.placements) (count_in up_to o.placements) o n) }
+    ensures { IfOk result (λ i. IsInstanceLeft up_to supervisors.now projects.now placements.now lists.now (instance_of i)) }
 {
     let roll = projects.entries();
     let counts = counted(up_to, supervisors, roll, placements);

@@ -6,7 +6,7 @@ use Rattle.clap.specs.Words.{App, Rule, new_app, new_rule, with_rule, with_subco
 use Rattle.clap.specs.declared.builder.value_parser.ValueParser.{ValueParser}
 use Rattle.clap.specs.declared.builder.value_parser.ValueParser.TheVariants.{Names, String, Unsigned}
 use Rattle.commands.specs.Kinds.{import_kinds, report_kinds, report_word}
-use Rattle.commands.specs.Table.{Argument, ToldLine, lines}
+use Rattle.commands.specs.Table.{Argument, DeclaredLine, lines}
 use Rattle.commands.specs.declared.program.Kinds.{Kinds}
 use Rattle.commands.specs.declared.table.Takes.{Takes}
 use Rattle.commands.specs.declared.table.Takes.TheVariants.{Word, Number, ImportKind, ReportKind, Aim}
@@ -34,12 +34,12 @@ abbrev pub with_argument : Kinds → App → Argument → App
 with_argument kinds app argument = with_rule app (rule_by kinds argument)
 
 -- a line as a command of its own
-abbrev pub line_app : Kinds → ToldLine → App
-line_app kinds told = fold (with_argument kinds) (new_app told.name) told.arguments
+abbrev pub line_app : Kinds → DeclaredLine → App
+line_app kinds declarations = fold (with_argument kinds) (new_app declarations.name) declarations.arguments
 
 -- a command with one more line as a subcommand
-abbrev pub with_line : Kinds → App → ToldLine → App
-with_line kinds app told = with_subcommand app (line_app kinds told).top
+abbrev pub with_line : Kinds → App → DeclaredLine → App
+with_line kinds app declarations = with_subcommand app (line_app kinds declarations).top
 
 -- the program's name; it has a version, and a subcommand must be given
 abbrev pub program_name : App

@@ -56,7 +56,7 @@ IsAimOf (Some word) a = word ≡ aim_word a
 
 -- there is a line of this name, and each of its arguments is given
 abbrev pub AreGiven : Text → List Row → Type 0
-AreGiven name rows = IsSomeAnd (find (λ told. bytes_eq told.name name) lines) (λ told. Each (IsGiven rows) told.arguments)
+AreGiven name rows = IsSomeAnd (find (λ declarations. bytes_eq declarations.name name) lines) (λ declarations. Each (IsGiven rows) declarations.arguments)
 
 -- the number that the digits of a word write, where a plus may stand first
 abbrev pub number_of : Text → ℕ

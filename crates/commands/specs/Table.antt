@@ -15,7 +15,7 @@ abbrev pub needs : Text → Takes → Argument
 needs name takes = record { name = name; takes = takes; needed = true }
 
 -- a line: its name, and its arguments in order
-pub record ToldLine : Type 0 where
+pub record DeclaredLine : Type 0 where
   pub name : Text
   pub arguments : List Argument
 
@@ -56,18 +56,18 @@ abbrev pub aim : Argument
 aim = record { name = codes "AIM"; takes = Aim; needed = false }
 
 -- a line of this name with these arguments
-abbrev pub line_told : Text → List Argument → ToldLine
-line_told name arguments = record { name = name; arguments = arguments }
+abbrev pub declared_line : Text → List Argument → DeclaredLine
+declared_line name arguments = record { name = name; arguments = arguments }
 
 -- the lines
-abbrev pub lines : List ToldLine
+abbrev pub lines : List DeclaredLine
 lines =
-    line_told (codes "serve") (database ∷ port ∷ count ∷ [])
-    ∷ line_told (codes "import") (database ∷ import_kind ∷ id ∷ file ∷ [])
-    ∷ line_told (codes "open-round") (database ∷ aim ∷ [])
-    ∷ line_told (codes "reopen-round") (database ∷ [])
-    ∷ line_told (codes "close-round") (database ∷ [])
-    ∷ line_told (codes "report") (database ∷ report_kind ∷ round ∷ [])
-    ∷ line_told (codes "solve") (file ∷ [])
-    ∷ line_told (codes "check") (file ∷ [])
+    declared_line (codes "serve") (database ∷ port ∷ count ∷ [])
+    ∷ declared_line (codes "import") (database ∷ import_kind ∷ id ∷ file ∷ [])
+    ∷ declared_line (codes "open-round") (database ∷ aim ∷ [])
+    ∷ declared_line (codes "reopen-round") (database ∷ [])
+    ∷ declared_line (codes "close-round") (database ∷ [])
+    ∷ declared_line (codes "report") (database ∷ report_kind ∷ round ∷ [])
+    ∷ declared_line (codes "solve") (file ∷ [])
+    ∷ declared_line (codes "check") (file ∷ [])
     ∷ []

@@ -34,14 +34,14 @@ fn parser_of<'a>(kinds: Kinds<'a>, takes: Takes) -> ValueParser<'a>
 }
 
 /// Returns an argument, as `clap` takes it.
-fn argument<'a>(alloc: Global, kinds: Kinds<'a>, told: &Argument) -> Arg<'a>
-    ensures rule { rule_of result ≡ rule_by kinds.entry (argument_by told.now) }
+fn argument<'a>(alloc: Global, kinds: Kinds<'a>, declarations: &Argument) -> Arg<'a>
+    ensures rule { rule_of result ≡ rule_by kinds.entry (argument_by declarations.now) }
     ensures local { result.global ≡ false }
 {
-    Arg::new(alloc, told.name)
-        .help(told.help)
-        .required(told.needed)
-        .value_parser(parser_of(kinds, told.takes))
+    Arg::new(alloc, declarations.name)
+        .help(declarations.help)
+        .required(declarations.needed)
+        .value_parser(parser_of(kinds, declarations.takes))
 }
 
 /// Returns a line, as a subcommand.
@@ -56,8 +56,8 @@ fn subcommand<'a>(
     let mut command = Command::new(alloc, row.name)
         .about(row.about)
         .after_help(row.example);
-    for told in row.arguments {
-        command = command.arg(argument(alloc, kinds, told))?;
+    for declarations in row.arguments {
+        command = command.arg(argument(alloc, kinds, declarations))?;
     }
     Ok(command)
 }

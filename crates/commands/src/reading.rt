@@ -6,7 +6,7 @@ ghost use Rattle.clap.specs.Words.{found_of, kind_of, rows_of, subcommand_rows_o
 ghost use Rattle.commands.specs.Kinds.{report_word};
 ghost use Rattle.commands.specs.Program.{AreWords};
 ghost use Rattle.commands.specs.Reading.{AreGiven, IsAimOf, IsAnswer, IsGiven, IsLineOf, fits, number_in, word_in};
-ghost use Rattle.commands.specs.Inside.Reading.{IsFaultAs, IsNumberBelow, IsToldBy};
+ghost use Rattle.commands.specs.Inside.Reading.{IsFaultAs, IsNumberBelow, IsReportedBy};
 ghost use Rattle.commands.specs.Table;
 ghost use Rattle.commands.specs.Inside.Table.{argument_by};
 
@@ -167,7 +167,7 @@ fn fault_as(kind: ErrorKind, text: Result<String, AllocError>) -> LineFault
 
 /// Returns why the words were not taken.
 fn fault_by(alloc: Global, error: &Error) -> LineFault
-    ensures { IsToldBy (kind_of error.now) result }
+    ensures { IsReportedBy (kind_of error.now) result }
 {
     fault_as(error.kind(), error.to_string(alloc))
 }

@@ -5,7 +5,7 @@ use Rattle.sqlite.specs.Held.{state}
 use Rattle.sqlite_trees.specs.declared.store.Store.{Ghosts}
 use Rattle.rolls.specs.declared.request.Request.{Request}
 use Rattle.rolls.specs.State.{State}
-use Rattle.tables.specs.Steps.{IsLeft}
+use Rattle.tables.specs.Steps.{MayRecoverTo}
 use Rattle.store.specs.Editions.{latest}
 use Rattle.store.specs.Laws.{OpensAgain}
 use Rattle.store.proofs.Standing.{in_latest}
@@ -22,7 +22,7 @@ module _ {S : Type 0} (ghosts : Ghosts S) (again : OpensAgain) where
 
   -- what is left of a call is what could be left before, or an office that it may make
   pub call_whole : (IsOne : State → Type 0) (old new : DeskState S) (refused : List Request) → LeavesOneOf ghosts refused old
-      → Survives (state ghosts old.store) (state ghosts new.store) (IsLeft (λ _. StandsForOne IsOne) (state ghosts old.store))
+      → Survives (state ghosts old.store) (state ghosts new.store) (MayRecoverTo (λ _. StandsForOne IsOne) (state ghosts old.store))
       → (office : State) → IsOpenedAfter ghosts new office → IsOneOf old.office refused office ⊎ IsOne office
   call_whole IsOne old new refused before survives office it = elim (survives.crash it.clean it.found.trees it.left) [
     | inl left ↦ inl (before office (record {
@@ -42,7 +42,7 @@ module _ {S : Type 0} (ghosts : Ghosts S) (again : OpensAgain) where
 
   -- of one request that is what the requests since may make
   pub ask_whole : (old new : DeskState S) (refused : List Request) (request : Request) → LeavesOneOf ghosts refused old
-      → Survives (state ghosts old.store) (state ghosts new.store) (IsLeft (λ _. StandsForOne (CarriesOut old.office request)) (state ghosts old.store))
+      → Survives (state ghosts old.store) (state ghosts new.store) (MayRecoverTo (λ _. StandsForOne (CarriesOut old.office request)) (state ghosts old.store))
       → (office : State) → IsOpenedAfter ghosts new office → IsOneOf old.office (request ∷ refused) office
   ask_whole old new refused request before survives office it = elim (call_whole (CarriesOut old.office request) old new refused before survives office it) [
     | inl left ↦ elim left [

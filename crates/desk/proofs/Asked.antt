@@ -7,10 +7,8 @@ use Rattle.rolls.specs.declared.request.Reply.{Reply}
 use Rattle.rolls.specs.declared.request.Request.{Request}
 use Rattle.rolls.specs.Reads.{changes_nothing}
 use Rattle.rolls.specs.Refusing.{refusal_of}
-use Rattle.rolls.specs.Run.{refusal}
 use Rattle.rolls.specs.State.{State}
 use Rattle.desk.specs.Saved.{IsSaved}
-use Rattle.desk.specs.Sessions.{IsToldRight}
 use Rattle.desk.proofs.NoStorage.{unread_named}
 use Rattle.desk.proofs.Runs.{crash_none}
 
@@ -19,13 +17,6 @@ use Rattle.desk.proofs.Runs.{crash_none}
 -- such a refusal says nothing of the storage
 pub named_unstored : (o : State) (q : Request) (r : Refusal) → refusal_of o q ≡ Some r → ◌≡◌ {A = Result Reply Refusal} (Err r) (Err Storage) → ⊥
 named_unstored o q r is told = let same : r ≡ Storage = cc in unread_named o q (is ∙ ap Some same)
-
-pub named_right : (o : State) (q : Request) (r : Refusal) → refusal_of o q ≡ Some r → IsToldRight o q (Err r)
-named_right o q r is = record {
-  named = subst (λ (x : Option Refusal). IfSome x (λ (s : Refusal). ◌≡◌ {A = Result Reply Refusal} (Err r) (Err s))) (sym is) refl;
-  storage = λ told. absurd (named_unstored o q r is told);
-  refused = λ told. absurd (named_unstored o q r is told);
-}
 
 -- ---- no table is touched
 

@@ -1,12 +1,15 @@
 -- What may be answered where a making is refused.
-use Rattle.std.proofs.Common.{◌≡◌, ◌⊎◌, inl, inr, Option, Some, Result, Ok, Err, IfErr}
-use Rattle.rolls.specs.declared.request.Done.{Done}
+use Rattle.std.proofs.Common.{◌≡◌, ◌⊎◌, inl, inr, Some, None, Result, Ok, Err, IfErr}
 use Rattle.rolls.specs.declared.refusal.Refusal.{Refusal}
 use Rattle.rolls.specs.declared.refusal.Refusal.TheVariants as no
-use Rattle.rolls.specs.Run.{MayRefuse}
+use Rattle.rolls.specs.declared.request.Request.{Request}
+use Rattle.rolls.specs.Refusing.{refusal_of}
+use Rattle.rolls.specs.Run.{MayRefuse, refusal}
+use Rattle.rolls.specs.State.{State}
+use Rattle.outside.specs.Layers.{layers}
 
--- what may come of a refused making
-pub may_refuse : (x : Option Refusal) (r : Result Done Refusal) → IfErr r (λ e. (e ≡ no.Memory) ⊎ (x ≡ Some e)) → IfErr r (MayRefuse x)
-may_refuse x (Ok done) h = h
-may_refuse x (Err e) (inl memory) = inl memory
-may_refuse x (Err e) (inr named) = inr (inr named)
+-- what may come of a making that is not refused before its text is read
+pub may_refuse : (o : State) (q : Request) → refusal_of o q ≡ None → {A : Type 0} (r : Result A Refusal) → IfErr r (λ e. (e ≡ no.Memory) ⊎ (refusal layers o q ≡ Some e)) → IfErr r (MayRefuse layers o q)
+may_refuse o q allowed (Ok done) h = h
+may_refuse o q allowed (Err e) (inl memory) = inr (allowed, inr (inl memory))
+may_refuse o q allowed (Err e) (inr named) = inr (allowed, inl named)

@@ -4,7 +4,7 @@ use Rattle.std.proofs.lemmas.List.{append_assoc}
 use Rattle.sqlite.specs.State.{State as Seen, HasCleanDisk, Survives}
 use Rattle.sqlite.specs.Tree.{Trees}
 use Rattle.sqlite.proofs.StateLemmas.{survives_then}
-use Rattle.tables.specs.Steps.{IsLeft}
+use Rattle.tables.specs.Steps.{MayRecoverTo}
 use Rattle.rolls.specs.declared.request.Reply.{Reply}
 use Rattle.rolls.specs.declared.refusal.Refusal.{Refusal}
 use Rattle.rolls.specs.declared.request.Request.{Request}
@@ -13,7 +13,7 @@ use Rattle.rolls.specs.Run.{Run, Step}
 use Rattle.outside.specs.Layers.{layers}
 use Rattle.solver.specs.SessionState.{SessionState}
 use Rattle.desk.specs.Keeping.{Begins, CarriesOut, StandsForOne}
-use Rattle.desk.specs.Sessions.{AnswersAtOnce, GoesOn, IsToldRight, RunsOn}
+use Rattle.desk.specs.Sessions.{AnswersAtOnce, GoesOn, RunsOn}
 
 -- all requests but the rest are answered by a run
 pub record HasRun (office : State) (all rest : List Request) (answers : List (Result Reply Refusal)) (now : State) : Type 0 where
@@ -73,8 +73,8 @@ module _ (o m n : State) (all left rest : List Request) (q : Request) (a : Resul
   }
 
   -- what a crash leaves
-  pub crash_more : HasRun o all left given m → (first mid last : Seen) → (HasCleanDisk mid → IsTrue mid.is_open → IsTrue first.is_open) → Survives first mid (IsLeft (λ _. StandsForOne (Begins o all given)) first)
-      → Survives mid last (IsLeft (λ _. StandsForOne (CarriesOut m q)) mid) → Survives first last (IsLeft (λ _. StandsForOne (Begins o all answers)) first)
+  pub crash_more : HasRun o all left given m → (first mid last : Seen) → (HasCleanDisk mid → IsTrue mid.is_open → IsTrue first.is_open) → Survives first mid (MayRecoverTo (λ _. StandsForOne (Begins o all given)) first)
+      → Survives mid last (MayRecoverTo (λ _. StandsForOne (CarriesOut m q)) mid) → Survives first last (MayRecoverTo (λ _. StandsForOne (Begins o all answers)) first)
   crash_more h first mid last shut one two = survives_then first mid last _ _ _ (λ clean trees it. record {
     was_open = it.was_open;
     db = it.db;
@@ -101,27 +101,26 @@ pub record HasRunOn (office : State) (session : Option SessionState) (all rest :
 
 -- a run and one step more
 runs_on_more : (o : State) (s : Option SessionState) (first : List Request) (given : List (Result Reply Refusal)) (m : State) (u : Option SessionState) (n : State) (t : Option SessionState) (q : Request) (a : Result Reply Refusal)
-    → RunsOn o s first given m u → Step layers m q a n → GoesOn m q a u t → IsToldRight m q a → AnswersAtOnce m u q a → RunsOn o s (first ++ q ∷ []) (given ++ a ∷ []) n t
-runs_on_more o s [] [] m u n t q a run step goes told at_once = (
+    → RunsOn o s first given m u → Step layers m q a n → GoesOn m q a u t → AnswersAtOnce m u q a → RunsOn o s (first ++ q ∷ []) (given ++ a ∷ []) n t
+runs_on_more o s [] [] m u n t q a run step goes at_once = (
   n,
   t,
   subst (λ (x : State). Step layers x q a n) run.0 step,
   subst (λ (x : State). GoesOn x q a s t) run.0 (subst (λ (x : Option SessionState). GoesOn m q a x t) run.1 goes),
-  subst (λ (x : State). IsToldRight x q a) run.0 told,
   subst (λ (x : State). AnswersAtOnce x s q a) run.0 (subst (λ (x : Option SessionState). AnswersAtOnce m x q a) run.1 at_once),
   (refl, refl),
 )
-runs_on_more o s [] (b ∷ given) m u n t q a run step goes told at_once = absurd run
-runs_on_more o s (p ∷ first) [] m u n t q a run step goes told at_once = absurd run
-runs_on_more o s (p ∷ first) (b ∷ given) m u n t q a run step goes told at_once = (run.0, run.1, run.2, run.3, run.4, run.5, runs_on_more run.0 run.1 first given m u n t q a run.6 step goes told at_once)
+runs_on_more o s [] (b ∷ given) m u n t q a run step goes at_once = absurd run
+runs_on_more o s (p ∷ first) [] m u n t q a run step goes at_once = absurd run
+runs_on_more o s (p ∷ first) (b ∷ given) m u n t q a run step goes at_once = (run.0, run.1, run.2, run.3, run.4, runs_on_more run.0 run.1 first given m u n t q a run.5 step goes at_once)
 
 -- one more is answered
 pub one_more_on : (o : State) (s : Option SessionState) (m : State) (u : Option SessionState) (n : State) (t : Option SessionState) (all left rest : List Request) (q : Request) (a : Result Reply Refusal) (given answers : List (Result Reply Refusal))
-    → left ≡ q ∷ rest → answers ≡ given ++ a ∷ [] → HasRunOn o s all left given m u → Step layers m q a n → GoesOn m q a u t → IsToldRight m q a → AnswersAtOnce m u q a → HasRunOn o s all rest answers n t
-one_more_on o s m u n t all left rest q a given answers next added h step goes told at_once = record {
+    → left ≡ q ∷ rest → answers ≡ given ++ a ∷ [] → HasRunOn o s all left given m u → Step layers m q a n → GoesOn m q a u t → AnswersAtOnce m u q a → HasRunOn o s all rest answers n t
+one_more_on o s m u n t all left rest q a given answers next added h step goes at_once = record {
   done = h.done ++ q ∷ [];
   split = h.split ∙ ap (λ qs. h.done ++ qs) next ∙ sym (append_assoc h.done (q ∷ []) rest);
-  run = subst (λ (xs : List (Result Reply Refusal)). RunsOn o s (h.done ++ q ∷ []) xs n t) (sym added) (runs_on_more o s h.done given m u n t q a h.run step goes told at_once);
+  run = subst (λ (xs : List (Result Reply Refusal)). RunsOn o s (h.done ++ q ∷ []) xs n t) (sym added) (runs_on_more o s h.done given m u n t q a h.run step goes at_once);
 }
 
 -- all are answered

@@ -14,45 +14,45 @@ use Rattle.rolls.specs.Stepping.{after_plain}
 use Rattle.rolls.specs.Run.{Makes}
 use Rattle.solver.specs.SessionState.{SessionState}
 use Rattle.outside.specs.Layers.{layers}
-use Rattle.outside.specs.Sittings.{MayJoin}
-use Rattle.rolls.specs.declared.fate.Fate.TheVariants.{Stays, Joins, Ends}
-use Rattle.desk.specs.Sessions.{plain_fate, fate_of, SitsAt}
+use Rattle.outside.specs.SessionRounds.{MayJoin}
+use Rattle.desk.specs.declared.sessions.SessionEffect.TheVariants.{Keep, Extend, End}
+use Rattle.desk.specs.Sessions.{plain_effect, effect_of, MirrorsRound}
 use Rattle.desk.specs.Inside.Sessions.{MayMeet}
 
 -- ---- a change
 
--- a student who is put is in no list, so the session sits as before
-put_stays : (o : State) (code label : List ℕ) (kept : Option SessionState) → SitsAt o kept → SitsAt (after_plain (PutStudent code label) o) kept
-put_stays o code label None sits = sits
-put_stays o code label (Some s) sits = record { is_open = sits.is_open; aim = sits.aim; named = sits.named; fit = sits.fit; here = sits.here; same = sits.same }
+-- a student who is put is in no list, so the session mirrors it as before
+put_stays : (o : State) (code label : List ℕ) (kept : Option SessionState) → MirrorsRound o kept → MirrorsRound (after_plain (PutStudent code label) o) kept
+put_stays o code label None mirrors = mirrors
+put_stays o code label (Some s) mirrors = record { is_open = mirrors.is_open; aim = mirrors.aim; named = mirrors.named; fit = mirrors.fit; here = mirrors.here; same = mirrors.same }
 
 -- who puts a first list may join
 put_joins : (o n : State) (student : List ℕ) (choices : List (List ℕ)) (kept : Option SessionState) → IsFit o → plain_refusal o (PutList student choices) ≡ None → has_list o (last_round o) student ≡ false → n ≡ after_plain (PutList student choices) o
-    → SitsAt o kept → IfSome kept (λ s. MayJoin n s student)
-put_joins o n student choices None fit allowed none after sits = sits
-put_joins o n student choices (Some s) fit allowed none after sits =
-    record { before = o; sat = sits; put = record { fit = fit; none_yet = none; choices = choices; allowed = allowed; after = after } }
+    → MirrorsRound o kept → IfSome kept (λ s. MayJoin n s student)
+put_joins o n student choices None fit allowed none after mirrors = mirrors
+put_joins o n student choices (Some s) fit allowed none after mirrors =
+    record { before = o; sat = mirrors; put = record { fit = fit; none_yet = none; choices = choices; allowed = allowed; after = after } }
 
-list_meets : (o n : State) (student : List ℕ) (choices : List (List ℕ)) (kept : Option SessionState) → IsFit o → plain_refusal o (PutList student choices) ≡ None → n ≡ after_plain (PutList student choices) o → SitsAt o kept
-    → (has : Bool) → has_list o (last_round o) student ≡ has → MayMeet (if has then Ends else Joins student) n kept
-list_meets o n student choices kept fit allowed after sits true is = tt
-list_meets o n student choices kept fit allowed after sits false is = put_joins o n student choices kept fit allowed is after sits
+list_meets : (o n : State) (student : List ℕ) (choices : List (List ℕ)) (kept : Option SessionState) → IsFit o → plain_refusal o (PutList student choices) ≡ None → n ≡ after_plain (PutList student choices) o → MirrorsRound o kept
+    → (has : Bool) → has_list o (last_round o) student ≡ has → MayMeet (if has then End else Extend student) n kept
+list_meets o n student choices kept fit allowed after mirrors true is = tt
+list_meets o n student choices kept fit allowed after mirrors false is = put_joins o n student choices kept fit allowed is after mirrors
 
-plain_meets : (o n : State) (p : Plain) (kept : Option SessionState) → IsFit o → plain_refusal o p ≡ None → is_read p ≡ false → n ≡ after_plain p o → SitsAt o kept → MayMeet (plain_fate o p) n kept
-plain_meets o n (PutSupervisor code label quota) kept fit allowed change after sits = tt
-plain_meets o n (PutProject code label supervisor quota) kept fit allowed change after sits = tt
-plain_meets o n (PutStudent code label) kept fit allowed change after sits = subst (λ (x : State). SitsAt x kept) (sym after) (put_stays o code label kept sits)
-plain_meets o n (OpenRound aim) kept fit allowed change after sits = tt
-plain_meets o n (PutList student choices) kept fit allowed change after sits = list_meets o n student choices kept fit allowed after sits (has_list o (last_round o) student) refl
-plain_meets o n (DropList student) kept fit allowed change after sits = tt
-plain_meets o n ReopenRound kept fit allowed change after sits = tt
-plain_meets o n _ kept fit allowed change after sits = absurd (cc)
+plain_meets : (o n : State) (p : Plain) (kept : Option SessionState) → IsFit o → plain_refusal o p ≡ None → is_read p ≡ false → n ≡ after_plain p o → MirrorsRound o kept → MayMeet (plain_effect o p) n kept
+plain_meets o n (PutSupervisor code label quota) kept fit allowed change after mirrors = tt
+plain_meets o n (PutProject code label supervisor quota) kept fit allowed change after mirrors = tt
+plain_meets o n (PutStudent code label) kept fit allowed change after mirrors = subst (λ (x : State). MirrorsRound x kept) (sym after) (put_stays o code label kept mirrors)
+plain_meets o n (OpenRound aim) kept fit allowed change after mirrors = tt
+plain_meets o n (PutList student choices) kept fit allowed change after mirrors = list_meets o n student choices kept fit allowed after mirrors (has_list o (last_round o) student) refl
+plain_meets o n (DropList student) kept fit allowed change after mirrors = tt
+plain_meets o n ReopenRound kept fit allowed change after mirrors = tt
+plain_meets o n _ kept fit allowed change after mirrors = absurd (cc)
 
--- a session that sits in an office may meet its fate in the office that a change makes
-pub meets : (o n : State) (q : Request) (reply : Reply) (kept : Option SessionState) → IsFit o → refusal_of o q ≡ None → changes_nothing o q ≡ false → Makes layers o q reply n → SitsAt o kept → MayMeet (fate_of o q) n kept
-meets o n (request.Plain p) reply kept fit allowed change made sits = plain_meets o n p kept fit allowed change made.1 sits
-meets o n request.Close reply kept fit allowed change made sits = tt
-meets o n request.Preview reply kept fit allowed change made sits = absurd (cc)
-meets o n request.RoundText reply kept fit allowed change made sits = absurd (cc)
-meets o n (request.Report kind round) reply kept fit allowed change made sits = absurd (cc)
-meets o n (request.Import id kind bytes) reply kept fit allowed change made sits = subst (λ (b : Bool). MayMeet (if b then Stays else Ends) n kept) (sym change) tt
+-- a session that mirrors an office may have the effect in the office that a change makes
+pub meets : (o n : State) (q : Request) (reply : Reply) (kept : Option SessionState) → IsFit o → refusal_of o q ≡ None → changes_nothing o q ≡ false → Makes layers o q reply n → MirrorsRound o kept → MayMeet (effect_of o q) n kept
+meets o n (request.Plain p) reply kept fit allowed change made mirrors = plain_meets o n p kept fit allowed change made.1 mirrors
+meets o n request.Close reply kept fit allowed change made mirrors = tt
+meets o n request.Preview reply kept fit allowed change made mirrors = absurd (cc)
+meets o n request.RoundText reply kept fit allowed change made mirrors = absurd (cc)
+meets o n (request.Report kind round) reply kept fit allowed change made mirrors = absurd (cc)
+meets o n (request.Import id kind bytes) reply kept fit allowed change made mirrors = subst (λ (b : Bool). MayMeet (if b then Keep else End) n kept) (sym change) tt

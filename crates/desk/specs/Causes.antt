@@ -1,10 +1,10 @@
 -- Why a request that changes the office fails, for another cause than running out of memory.
 use Rattle.std.specs.Prelude.{ℕ, List, Option}
 use Rattle.sqlite.specs.Effect.{Database}
-use Rattle.row_data.specs.declared.row.Change.{Change}
+use Rattle.row_model.specs.declared.row.Change.{Change}
 use Rattle.rolls.specs.declared.request.Request.{Request}
 use Rattle.rolls.specs.State.{State}
-use Rattle.rolls.specs.Rows.{Turns}
+use Rattle.rolls.specs.Rows.{Transforms}
 use Rattle.outside.specs.Changes.{MayChange}
 use Rattle.store.specs.Causes.{IsHinderedToSave}
 use Rattle.desk.specs.Keeping.{CarriesOut}
@@ -15,5 +15,5 @@ pub record IsHinderedToAsk (office : State) (request : Request) (limit : Option 
   pub carried : CarriesOut office request next
   pub changes : List Change
   pub may : MayChange office request changes
-  pub turns : Turns changes office next
+  pub transforms : Transforms changes office next
   pub hindered : IsHinderedToSave changes limit db

@@ -1,5 +1,5 @@
 -- What proofs need and no public clause says.
-pub mod Books
+pub mod PersistentOffice
 pub mod Keeping
 pub mod DeskState
 pub mod Saved

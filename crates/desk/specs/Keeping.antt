@@ -55,8 +55,8 @@ repeated_rows office (request.Import id kind bytes) = kept_rows office id
 repeated_rows office _ = None
 
 -- a stored import that is asked for once more, with the same kind and bytes, answers its own number of rows
-abbrev pub AnswersKept : State → Request → Result Reply Refusal → Type 0
-AnswersKept office request answer = refusal_of office request ≡ None → IfSome (repeated_rows office request) (λ rows. answer ≡ Ok (reply.Rows rows))
+abbrev pub AnswersStored : State → Request → Result Reply Refusal → Type 0
+AnswersStored office request answer = refusal_of office request ≡ None → IfSome (repeated_rows office request) (λ rows. answer ≡ Ok (reply.Rows rows))
 
 -- a read of a known round answers
 abbrev pub AnswersRound : State → Request → Result Reply Refusal → Type 0

@@ -9,7 +9,7 @@ use Rattle.rolls.specs.declared.request.Reply.{Reply}
 use Rattle.rolls.specs.declared.request.Request.{Request}
 use Rattle.rolls.specs.State.{State}
 use Rattle.rolls.specs.Fit.{IsFit}
-use Rattle.tables.specs.Steps.{IsLeft}
+use Rattle.tables.specs.Steps.{MayRecoverTo}
 use Rattle.store.specs.Tables.{LeavesAlone, Opens, StandsFor}
 use Rattle.desk.specs.DeskState.{DeskState}
 use Rattle.desk.specs.Keeping.{Begins, CarriesOut, StandsForOne}
@@ -55,11 +55,11 @@ module _ {S : Type 0} (ghosts : Ghosts S) where
   -- more, since other requests were refused before, it still can.
   abbrev pub AskIsWhole : Type 0
   AskIsWhole = (old new : DeskState S) (refused : List Request) (request : Request) → LeavesOneOf refused old
-      → Survives (state ghosts old.store) (state ghosts new.store) (IsLeft (λ _. StandsForOne (CarriesOut old.office request)) (state ghosts old.store))
+      → Survives (state ghosts old.store) (state ghosts new.store) (MayRecoverTo (λ _. StandsForOne (CarriesOut old.office request)) (state ghosts old.store))
       → (office : State) → IsOpenedAfter new office → IsOneOf old.office (request ∷ refused) office
 
   -- after a run the office before is opened, or what a crash before it could leave, or one that some beginning of the run makes of it
   abbrev pub RunIsWhole : Type 0
   RunIsWhole = (old new : DeskState S) (refused requests : List Request) (answers : List (Result Reply Refusal)) → LeavesOneOf refused old
-      → Survives (state ghosts old.store) (state ghosts new.store) (IsLeft (λ _. StandsForOne (Begins old.office requests answers)) (state ghosts old.store))
+      → Survives (state ghosts old.store) (state ghosts new.store) (MayRecoverTo (λ _. StandsForOne (Begins old.office requests answers)) (state ghosts old.store))
       → (office : State) → IsOpenedAfter new office → IsOneOf old.office refused office ⊎ Begins old.office requests answers office

@@ -1,4 +1,4 @@
-pub mod Books
+pub mod PersistentOffice
 pub mod Keeping
 pub mod DeskState
 pub mod Causes

@@ -8,7 +8,7 @@ use Rattle.rolls.specs.declared.request.Reply.{Reply}
 use Rattle.rolls.specs.declared.request.Request.{Request}
 use Rattle.rolls.specs.Reads.{changes_nothing}
 use Rattle.tables.specs.Causes.{IsCaused}
-use Rattle.tables.specs.Steps.{IsLeft}
+use Rattle.tables.specs.Steps.{MayRecoverTo}
 use Rattle.store.specs.Saving.{AreActedOn}
 use Rattle.store.specs.Tables.{LeavesAlone}
 use Rattle.desk.specs.Causes.{IsHinderedToAsk}
@@ -17,7 +17,7 @@ use Rattle.desk.specs.Keeping.{CarriesOut, StandsForOne}
 -- The tables of the one state become those of the other by a request to the office, which got this answer.
 pub record IsSaved (office : State) (request : Request) (answer : Result Reply Refusal) (old new : Seen) : Type 0 where
   -- a crash leaves what it could leave before, or, where the connection was open, the tables of an office that the request makes
-  pub crash : Survives old new (IsLeft (λ _. StandsForOne (CarriesOut office request)) old)
+  pub crash : Survives old new (MayRecoverTo (λ _. StandsForOne (CarriesOut office request)) old)
   -- after an answered change it leaves the tables after it alone, and the connection is open, so that they stand for the office
   pub alone : changes_nothing office request ≡ false → HasCleanDisk new → OnOk answer (LeavesAlone new)
   pub stays_open : changes_nothing office request ≡ false → HasCleanDisk new → OnOk answer (IsTrue new.is_open)

@@ -3,7 +3,7 @@
 ghost use Rattle.std.specs.Prelude.{ℕ, ◌≡◌, ◌≢◌, ◌⊎◌, Err, IfOk, IfErr, IsOk, IsErr, IfSome, IsTrue, is_some, OnErr, None, option_map, false, true};
 ghost use Rattle.sqlite.specs.State.{HasCleanDisk, IsLive, Survives};
 ghost use Rattle.sqlite.specs.Held.{state};
-ghost use Rattle.tables.specs.Steps.{IsLeft};
+ghost use Rattle.tables.specs.Steps.{MayRecoverTo};
 ghost use Rattle.rolls.specs.Fit.{IsFit};
 ghost use Rattle.rolls.specs.Reads.{changes_nothing};
 ghost use Rattle.rolls.specs.Refusing.{refusal_of};
@@ -15,10 +15,10 @@ ghost use Rattle.store.specs.Tables.{HasNone};
 ghost use Rattle.desk.specs.Keeping.{Begins, Keeps, StandsForOne, needs_no_table};
 ghost use Rattle.desk.specs.DeskState.{IsOpened};
 ghost use Rattle.desk.specs.Saved.{IsSaved};
-ghost use Rattle.desk.specs.Sessions.{AnswersAtOnce, GoesOn, IsToldRight, RunsOn, SitsAt};
+ghost use Rattle.desk.specs.Sessions.{AnswersAtOnce, GoesOn, RunsOn, MirrorsRound};
 
-use crate::books::{Books, refusal_of_fault};
-use crate::sessions::{fate_of, next_session};
+use crate::persistent::{PersistentOffice, refusal_of_fault};
+use crate::sessions::{effect_of, next_session};
 use office::Office;
 use rolls::{Plain, Refusal, Reply, Request};
 use solver::Session;
@@ -31,22 +31,22 @@ use store::Store;
 #[derive(Drop)]
 pub struct Desk<S: Alter> {
     alloc: Global,
-    books: Books<S>,
+    persistent: PersistentOffice<S>,
     session: Option<Session>,
 }
 
 impl<S: Alter> Model for Desk<S> {
     ghost use Rattle.desk.specs.DeskState.{DeskState};
     ghost use Rattle.desk.specs.Inside.DeskState.{kept_code};
-    ghost use Rattle.desk.specs.Sessions.{SitsAt};
+    ghost use Rattle.desk.specs.Sessions.{MirrorsRound};
 
     ghost Value = { DeskState S };
 
     ghost coded = { kept_code S.code };
 
-    ghost view = { λ d. let books = d.books in record { office = books.office; store = books.store; session = d.session } };
+    ghost view = { λ d. let persistent = d.persistent in record { office = persistent.office; store = persistent.store; session = d.session } };
 
-    ghost invariant = { λ d. let books = d.books in SitsAt books.office d.session };
+    ghost invariant = { λ d. let persistent = d.persistent in MirrorsRound persistent.office d.session };
 }
 
 /// Whether a request changes nothing of an office.
@@ -82,7 +82,7 @@ impl<S: Alter> Desk<S> {
         match Store::open(alloc, connection) {
             Ok((store, office)) => Ok(Desk {
                 alloc,
-                books: Books {
+                persistent: PersistentOffice {
                     alloc,
                     office,
                     store,
@@ -93,15 +93,15 @@ impl<S: Alter> Desk<S> {
         }
     }
 
-    /// The tables of every desk stand for its office, which is fit, and a session that it caches sits in its open round.
+    /// The tables of every desk stand for its office, which is fit, and a session that it caches mirrors its open round.
     pub fn keeps(&self)
         ensures tables { Keeps (state S.Store self.now.store) self.now.office }
         ensures ended { self.now.store.in_transaction ≡ false }
         ensures fit { IsFit self.now.office }
         ensures live { IsLive (state S.Store self.now.store) }
-        ensures sits { SitsAt self.now.office self.now.session }
+        ensures mirrors { MirrorsRound self.now.office self.now.session }
     {
-        self.books.keeps();
+        self.persistent.keeps();
     }
 
     /// Gives the connection up. Allocates nothing.
@@ -110,15 +110,15 @@ impl<S: Alter> Desk<S> {
     {
         let Desk {
             alloc: _,
-            books,
+            persistent,
             session,
         } = self;
         drop(session);
-        let Books {
+        let PersistentOffice {
             alloc: _,
             office,
             store,
-        } = books;
+        } = persistent;
         drop(office);
         store.into_connection()
     }
@@ -145,7 +145,7 @@ impl<S: Alter> Desk<S> {
 
         // What a crash leaves: what it could leave before, or, where the connection was open, the tables of an office that some
         // beginning of the run makes.
-        ensures crash { IfOk result (λ answers. Survives (state S.Store self.old.store) (state S.Store self.new.store) (IsLeft (λ _. StandsForOne (Begins self.old.office requests.items answers.items)) (state S.Store self.old.store))) }
+        ensures crash { IfOk result (λ answers. Survives (state S.Store self.old.store) (state S.Store self.new.store) (MayRecoverTo (λ _. StandsForOne (Begins self.old.office requests.items answers.items)) (state S.Store self.old.store))) }
         ensures stays_shut { HasCleanDisk (state S.Store self.new.store) → IsTrue (state S.Store self.new.store).is_open → IsTrue (state S.Store self.old.store).is_open }
     {
         self.keeps();
@@ -164,9 +164,6 @@ impl<S: Alter> Desk<S> {
         ensures tables { Keeps (state S.Store self.new.store) self.new.office }
         ensures quiet { needs_no_table self.old.office request ≡ true → self.new.store ≡ self.old.store }
 
-        // A refusal by name is answered as itself, and none is answered as a fault of the storage.
-        ensures told { IsToldRight self.old.office request result }
-
         // What a crash leaves, that an answered change has its tables alone over an open connection, and why the storage has failed.
         ensures saved { IsSaved self.old.office request result (state S.Store self.old.store) (state S.Store self.new.store) }
 
@@ -178,10 +175,10 @@ impl<S: Alter> Desk<S> {
         // first list joins the one that is cached or drops it, and every other change leaves none.
         ensures session { GoesOn self.old.office request result self.old.session self.new.session }
     {
-        if let Some(refusal) = self.books.office.refusal_of(&request) {
+        if let Some(refusal) = self.persistent.office.refusal_of(&request) {
             return Err(refusal);
         }
-        if changes_nothing(&self.books.office, &request) {
+        if changes_nothing(&self.persistent.office, &request) {
             self.read(request)
         } else {
             self.change(request)
@@ -200,9 +197,9 @@ impl<S: Alter> Desk<S> {
         ensures session { GoesOn self.old.office request result self.old.session self.new.session }
     {
         self.keeps();
-        let office = &self.books.office;
+        let office = &self.persistent.office;
         match request {
-            Request::Plain(plain) => self.books.read(plain),
+            Request::Plain(plain) => self.persistent.read(plain),
             Request::Close => unreachable!(),
             Request::Preview => self.preview(),
             Request::RoundText => Ok(outside::round_text(self.alloc, office)?),
@@ -228,7 +225,7 @@ impl<S: Alter> Desk<S> {
         if let Some(session) = &self.session {
             return Ok(outside::read_preview(session));
         }
-        let session = outside::sit(self.alloc, &self.books.office)?;
+        let session = outside::start_session(self.alloc, &self.persistent.office)?;
         let reply = outside::read_preview(&session);
         self.session = Some(session);
         Ok(reply)
@@ -241,15 +238,14 @@ impl<S: Alter> Desk<S> {
         ensures step { Step layers self.old.office request result self.new.office }
         ensures tables { Keeps (state S.Store self.new.store) self.new.office }
         ensures quiet { IfSome (refusal layers self.old.office request) (λ _. self.new.store ≡ self.old.store) }
-        ensures refused { result ≡ Err Refusal.Storage → refusal layers self.old.office request ≡ None }
         ensures saved { IsSaved self.old.office request result (state S.Store self.old.store) (state S.Store self.new.store) }
         ensures session { GoesOn self.old.office request result self.old.session self.new.session }
     {
         self.keeps();
-        let fate = fate_of(self.alloc, &self.books.office, &request)?;
-        let reply = self.books.change(request)?;
+        let effect = effect_of(self.alloc, &self.persistent.office, &request)?;
+        let reply = self.persistent.change(request)?;
         let kept = self.session.take();
-        self.session = next_session(self.alloc, &self.books.office, kept, fate);
+        self.session = next_session(self.alloc, &self.persistent.office, kept, effect);
         Ok(reply)
     }
 }

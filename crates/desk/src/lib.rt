@@ -13,9 +13,9 @@
 //! or some beginning of the run makes of it (`crash_law`). Begin with `desk.rt`, `specs/Keeping.antt` and `specs/Sessions.antt`.
 #![tactic(auto)]
 
-mod books;
 mod desk;
 mod laws;
+mod persistent;
 mod sessions;
 
 pub use desk::Desk;

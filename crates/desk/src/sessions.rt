@@ -1,51 +1,70 @@
 //! What becomes of the session that a desk keeps.
 
 ghost use Rattle.std.specs.Prelude.{◌≡◌, IfOk, IfSome};
-ghost use Rattle.outside.specs.Sittings.{MayJoin};
-ghost use Rattle.desk.specs.Sessions.{list_fate, plain_fate, fate_of, Goes, IsJoined, SitsAt};
+ghost use Rattle.outside.specs.SessionRounds.{MayJoin};
+ghost use Rattle.desk.specs.Sessions.{list_effect, plain_effect, effect_of, Goes, IsJoined, MirrorsRound};
 ghost use Rattle.desk.specs.Inside.Sessions.{MayMeet};
 
 use office::Office;
-use rolls::{Fate, Plain, Request, Text};
+use rolls::{Plain, Request, Text};
 use solver::Session;
 use std::alloc::{AllocError, Global};
 
+/// What a request, once carried out, makes of the session.
+#[derive(Drop)]
+pub enum SessionEffect {
+    /// It stays as it is.
+    Keep,
+    /// It stays, and where none is cached one is started.
+    Start,
+    /// This student is admitted.
+    Extend(Text),
+    /// It is dropped.
+    End,
+}
+
 /// Returns what a put of a list makes of the session: a first list joins it, and one over another ends it.
-fn list_fate(alloc: Global, office: &Office, student: &str) -> Result<Fate, AllocError>
-    ensures { IfOk result (λ fate. fate ≡ list_fate office.now student.now) }
+fn list_effect(alloc: Global, office: &Office, student: &str) -> Result<SessionEffect, AllocError>
+    ensures { IfOk result (λ effect. effect ≡ list_effect office.now student.now) }
 {
     if office.list_of(office.last_round(), student).is_some() {
-        return Ok(Fate::Ends);
+        return Ok(SessionEffect::End);
     }
-    Ok(Fate::Joins(Text::of(alloc, student)?))
+    Ok(SessionEffect::Extend(Text::of(alloc, student)?))
 }
 
 /// Returns what a plain request makes of the session.
-fn plain_fate(alloc: Global, office: &Office, plain: &Plain) -> Result<Fate, AllocError>
-    ensures { IfOk result (λ fate. fate ≡ plain_fate office.now plain.now) }
+fn plain_effect(alloc: Global, office: &Office, plain: &Plain) -> Result<SessionEffect, AllocError>
+    ensures { IfOk result (λ effect. effect ≡ plain_effect office.now plain.now) }
 {
     match plain {
-        Plain::PutList { student, .. } => list_fate(alloc, office, student.as_str()),
-        Plain::PutStudent { .. } => Ok(Fate::Stays),
-        Plain::GetSupervisor { .. } | Plain::GetProject { .. } => Ok(Fate::Stays),
-        Plain::GetStudent { .. } | Plain::GetRound { .. } => Ok(Fate::Stays),
-        Plain::PutSupervisor { .. } | Plain::PutProject { .. } => Ok(Fate::Ends),
-        Plain::OpenRound { .. } | Plain::DropList { .. } | Plain::ReopenRound => Ok(Fate::Ends),
+        Plain::PutList { student, .. } => list_effect(alloc, office, student.as_str()),
+        Plain::PutStudent { .. } => Ok(SessionEffect::Keep),
+        Plain::GetSupervisor { .. } | Plain::GetProject { .. } => Ok(SessionEffect::Keep),
+        Plain::GetStudent { .. } | Plain::GetRound { .. } => Ok(SessionEffect::Keep),
+        Plain::PutSupervisor { .. } | Plain::PutProject { .. } => Ok(SessionEffect::End),
+        Plain::OpenRound { .. } | Plain::DropList { .. } | Plain::ReopenRound => Ok(
+            SessionEffect::End,
+        ),
     }
 }
 
 /// Returns what a request makes of the session.
-pub fn fate_of(alloc: Global, office: &Office, request: &Request) -> Result<Fate, AllocError>
-    ensures { IfOk result (λ fate. fate ≡ fate_of office.now request.now) }
+pub fn effect_of(
+    alloc: Global,
+    office: &Office,
+    request: &Request,
+) -> Result<SessionEffect, AllocError>
+    ensures { IfOk result (λ effect. effect ≡ effect_of office.now request.now) }
 {
     match request {
-        Request::Plain(plain) => plain_fate(alloc, office, plain),
-        Request::Close => Ok(Fate::Ends),
-        Request::Preview => Ok(Fate::Starts),
-        Request::RoundText | Request::Report { .. } => Ok(Fate::Stays),
+        Request::Plain(plain) => plain_effect(alloc, office, plain),
+        Request::Close => Ok(SessionEffect::End),
+        Request::Preview => Ok(SessionEffect::Start),
+        Request::RoundText | Request::Report { .. } => Ok(SessionEffect::Keep),
         Request::Import { id, .. } => match office.kept_rows(id.as_str()) {
-            Some(_) => Ok(Fate::Stays),
-            None => Ok(Fate::Ends),
+            Some(_) => Ok(SessionEffect::Keep),
+            None => Ok(SessionEffect::End),
         },
     }
 }
@@ -54,7 +73,7 @@ pub fn fate_of(alloc: Global, office: &Office, request: &Request) -> Result<Fate
 fn joined(alloc: Global, office: &Office, kept: Option<Session>, student: &str) -> Option<Session>
     requires joins { IfSome kept (λ s. MayJoin office.now s student.now) }
     ensures joined { IsJoined kept result }
-    ensures sits { SitsAt office.now result }
+    ensures mirrors { MirrorsRound office.now result }
 {
     let Some(mut session) = kept else {
         return None;
@@ -70,15 +89,15 @@ pub fn next_session(
     alloc: Global,
     office: &Office,
     kept: Option<Session>,
-    fate: Fate,
+    effect: SessionEffect,
 ) -> Option<Session>
-    requires meets { MayMeet fate office.now kept }
-    ensures goes { Goes fate kept result }
-    ensures sits { SitsAt office.now result }
+    requires meets { MayMeet effect office.now kept }
+    ensures goes { Goes effect kept result }
+    ensures mirrors { MirrorsRound office.now result }
 {
-    match fate {
-        Fate::Stays | Fate::Starts => kept,
-        Fate::Joins(student) => joined(alloc, office, kept, student.as_str()),
-        Fate::Ends => None,
+    match effect {
+        SessionEffect::Keep | SessionEffect::Start => kept,
+        SessionEffect::Extend(student) => joined(alloc, office, kept, student.as_str()),
+        SessionEffect::End => None,
     }
 }

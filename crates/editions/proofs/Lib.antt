@@ -1,3 +1,3 @@
 pub mod OtherNames
-pub mod Renewing
-pub mod Upgrading
+pub mod MigratingRows
+pub mod MigratingChanges

@@ -2,13 +2,13 @@
 use Rattle.std.specs.Prelude.{◌≡◌, ◌↔◌, ℕ, Bool, false, ⊤, List, [], ◌∷◌, ◌++◌, map, filter, take}
 use Rattle.std.specs.List.{list_any}
 use Rattle.spa.specs.declared.aim.Aim.TheVariants.{Greedy}
-use Rattle.row_data.specs.declared.table.Table.{Table}
-use Rattle.row_data.specs.declared.table.Table.TheVariants.{Round, OldChoice, OldPlacement, RoundAim, Choice, Placement}
-use Rattle.row_data.specs.declared.row.Change.{Change}
-use Rattle.row_data.specs.declared.row.Change.TheVariants.{Add, Remove}
-use Rattle.row_data.specs.declared.row.Group.TheVariants.{Key}
-use Rattle.row_data.specs.Rows.{AllRows, SameRows, Cells, RowOf, key_in, of_table, same_table}
-use Rattle.row_data.specs.Changes.{TurnsRows}
+use Rattle.row_model.specs.declared.table.Table.{Table}
+use Rattle.row_model.specs.declared.table.Table.TheVariants.{Round, OldChoice, OldPlacement, RoundAim, Choice, Placement}
+use Rattle.row_model.specs.declared.row.Change.{Change}
+use Rattle.row_model.specs.declared.row.Change.TheVariants.{Add, Remove}
+use Rattle.row_model.specs.declared.row.Group.TheVariants.{Key}
+use Rattle.row_model.specs.Rows.{AllRows, SameRows, Cells, RowOf, key_in, of_table, same_table}
+use Rattle.row_model.specs.Changes.{TransformsRows}
 use Rattle.rolls.specs.Fit.{IsFit}
 use Rattle.rolls.specs.State.{State, aim_of}
 use Rattle.rolls.specs.Rows.{AreRowsOf, flag, rows_in}
@@ -58,10 +58,10 @@ abbrev pub renamed_row : RowOf → RowOf
 renamed_row r = record r { table = renamed r.table }
 
 -- what the rows of an edition are in the latest
-abbrev pub renewed : Edition → List RowOf → List RowOf
-renewed First rows = map renamed_row (rows ++ aims_of rows)
-renewed Second rows = map renamed_row rows
-renewed Third rows = rows
+abbrev pub migrated_rows : Edition → List RowOf → List RowOf
+migrated_rows First rows = map renamed_row (rows ++ aims_of rows)
+migrated_rows Second rows = map renamed_row rows
+migrated_rows Third rows = rows
 
 -- the tables of earlier editions
 abbrev pub olds : List Table
@@ -84,10 +84,10 @@ abbrev pub renaming_changes : List RowOf → List RowOf → List Change
 renaming_changes rows more = map removal_of (filter is_old rows) ++ map Add (map renamed_row (filter is_old rows) ++ more)
 
 -- the changes that bring the rows of an edition to the latest
-abbrev pub upgrade : Edition → List RowOf → List Change
-upgrade First rows = renaming_changes rows (aims_of rows)
-upgrade Second rows = renaming_changes rows []
-upgrade Third rows = []
+abbrev pub migrating_changes : Edition → List RowOf → List Change
+migrating_changes First rows = renaming_changes rows (aims_of rows)
+migrating_changes Second rows = renaming_changes rows []
+migrating_changes Third rows = []
 
 -- no row is the aim of a round where rounds have none
 abbrev pub HaveNoLater : Edition → List RowOf → Type 0
@@ -95,9 +95,9 @@ HaveNoLater First rows = of_table rows RoundAim ≡ []
 HaveNoLater _ rows = ⊤
 
 -- rows that have none of a later edition are those of a fit office in theirs exactly where what they are in the latest is its rows
-abbrev pub Renews : Type 0
-Renews = (e : Edition) (rows : List RowOf) (o : State) → HaveNoLater e rows → IsFit o → AreRowsIn e rows o ↔ AreRowsOf (renewed e rows) o
+abbrev pub RowsMigrate : Type 0
+RowsMigrate = (e : Edition) (rows : List RowOf) (o : State) → HaveNoLater e rows → IsFit o → AreRowsIn e rows o ↔ AreRowsOf (migrated_rows e rows) o
 
 -- the changes transform the rows that a fit office has in an edition into those it has in the latest, and add none at a key that has one
-abbrev pub Upgrades : Type 0
-Upgrades = (e : Edition) (rows : List RowOf) (o : State) → IsFit o → AreRowsIn e rows o → TurnsRows (upgrade e rows) (rows_in_edition e o) (rows_in o)
+abbrev pub ChangesMigrate : Type 0
+ChangesMigrate = (e : Edition) (rows : List RowOf) (o : State) → IsFit o → AreRowsIn e rows o → TransformsRows (migrating_changes e rows) (rows_in_edition e o) (rows_in o)

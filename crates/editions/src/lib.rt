@@ -1,13 +1,13 @@
 //! Editions of the tables: which rows an office has in each, and what brings those of an earlier one to the latest.
 //!
-//! Promised: what `renewed` makes of the rows of an earlier edition is the rows of one office exactly where the office has
-//! them in that edition, and the changes that `upgrade` makes of them transform them into its rows in the latest; so making the
+//! Promised: what `migrated_rows` makes of the rows of an earlier edition is the rows of one office exactly where the office has
+//! them in that edition, and the changes that `migrating_changes` makes of them transform them into its rows in the latest; so making the
 //! changes migrates the tables. Nothing here knows of SQL: the changes are made as those of a request are.
 #![tactic(auto)]
 
 ghost use Rattle.std.specs.Prelude.{◌≡◌, ◌++◌, IfOk, map, filter};
 ghost use Rattle.editions.specs.Editions as says;
-ghost use Rattle.editions.specs.Editions.{Renews, Upgrades};
+ghost use Rattle.editions.specs.Editions.{RowsMigrate, ChangesMigrate};
 
 use rolls::{Cell, Change, Row, Table};
 use std::alloc::{AllocError, Global};
@@ -72,8 +72,12 @@ fn all_renamed(alloc: Global, rows: Vec<Row>) -> Result<Vec<Row>, AllocError>
 }
 
 /// Returns what the rows of an edition are in the latest.
-pub fn renewed(alloc: Global, edition: Edition, mut rows: Vec<Row>) -> Result<Vec<Row>, AllocError>
-    ensures { IfOk result (λ all. all.items ≡ says.renewed edition rows.items) }
+pub fn migrated_rows(
+    alloc: Global,
+    edition: Edition,
+    mut rows: Vec<Row>,
+) -> Result<Vec<Row>, AllocError>
+    ensures { IfOk result (λ all. all.items ≡ says.migrated_rows edition rows.items) }
 {
     match edition {
         Edition::First => {
@@ -137,8 +141,12 @@ fn renaming_changes(
 }
 
 /// Returns the changes that bring the rows of an edition to the latest.
-pub fn upgrade(alloc: Global, edition: Edition, rows: &[Row]) -> Result<Vec<Change>, AllocError>
-    ensures { IfOk result (λ changes. changes.items ≡ says.upgrade edition rows.now) }
+pub fn migrating_changes(
+    alloc: Global,
+    edition: Edition,
+    rows: &[Row],
+) -> Result<Vec<Change>, AllocError>
+    ensures { IfOk result (λ changes. changes.items ≡ says.migrating_changes edition rows.now) }
 {
     match edition {
         Edition::First => {
@@ -151,11 +159,11 @@ pub fn upgrade(alloc: Global, edition: Edition, rows: &[Row]) -> Result<Vec<Chan
 }
 
 /// The law that rows are those of an office in an edition where what they are in the latest is its rows there.
-pub fn renewal_law()
-    ensures { Renews }
+pub fn migrated_rows_law()
+    ensures { RowsMigrate }
 {}
 
 /// The law that these changes transform the rows that an office has in an edition into those that it has in the latest.
-pub fn upgrade_law()
-    ensures { Upgrades }
+pub fn migrating_changes_law()
+    ensures { ChangesMigrate }
 {}

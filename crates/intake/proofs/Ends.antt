@@ -20,7 +20,7 @@ use Rattle.intake.specs.Parts.{Parts, Rise, IsPlace, ArePricesOrNone, IsRoundPar
 use Rattle.intake.specs.Lines.{Row, choice_code, line, round_lines, section_lines, priced, price_section, pair_rows, aim_rows, supervisor_row, project_row, student_row}
 use Rattle.intake.specs.Reading.{BeginsLines}
 use Rattle.intake.specs.Inside.PartialRound.{IsDraft, IsWhole, ArePlaces, ArePricesUpTo, NoneOrAll, AreComplete}
-use Rattle.intake.specs.Inside.Entries.{IsTurn, with_prices}
+use Rattle.intake.specs.Inside.Entries.{ArePricedUpTo, with_prices}
 
 -- nobody of the rest has a place
 pub no_more_pairs : (es : List Student) (ks : List (Option ℕ)) (n : ℕ) → pair_rows es (ks ++ replicate n None) ≡ pair_rows es ks
@@ -124,7 +124,7 @@ same_parts aim i j ks ls u y z e f =
     ∙ ap (λ (ks : List (Option ℕ)). let p : Parts = record { aim = aim; instance = j; places = ks; student_prices = u; project_prices = y; supervisor_prices = z } in p) f
 
 -- the prices that are read are completed
-begins_at : (n : ℕ) (p : Parts) → IsDraft p → IsTurn n (priced p) → BeginsLines (round_lines p)
+begins_at : (n : ℕ) (p : Parts) → IsDraft p → ArePricedUpTo n (priced p) → BeginsLines (round_lines p)
 begins_at n p d t =
     let vs : List (List ℤ) = filled n (priced p) in
     let more = filled_rows n (priced p) d.prices t in

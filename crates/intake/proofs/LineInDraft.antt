@@ -8,7 +8,7 @@ use Rattle.intake.specs.Parts.{Parts}
 use Rattle.intake.specs.Lines.{Row, line, round_lines}
 use Rattle.intake.specs.Reading.{BeginsLines}
 use Rattle.intake.specs.Inside.PartialRound.{IsDraft, IsField}
-use Rattle.intake.specs.Inside.Entries.{AddsEntry, AddsLine, HasTurn, letter_of, line_of}
+use Rattle.intake.specs.Inside.Entries.{AddsEntry, AddsLine, MayComeNext, letter_of, line_of}
 use Rattle.intake.proofs.Goes.{goes_on}
 use Rattle.intake.proofs.Takes.{only, other_only}
 use Rattle.intake.proofs.Steps.{step}
@@ -31,7 +31,7 @@ letter_field s row f = All-cons IsField (letter_of s) row (go s) f
     go SupervisorPrices = one 90 refl
 
 -- what is added in a section that has its turn
-pub section_line : (s : SectionName) (old : Parts) (row : Row) (new : Parts) (b : Bool) → IsDraft old → All IsField row → HasTurn s old → AddsEntry s old row new b → AddsLine old (line (letter_of s) row) new b
+pub section_line : (s : SectionName) (old : Parts) (row : Row) (new : Parts) (b : Bool) → IsDraft old → All IsField row → MayComeNext s old → AddsEntry s old row new b → AddsLine old (line (letter_of s) row) new b
 section_line s old row new true d f t h =
     let made = step s old row h.0 d t h.1 in
     (subst IsDraft (sym h.2) made.0, ap round_lines h.2 ∙ made.1)
@@ -47,7 +47,7 @@ pub fields_after : (fs : List (Bor (List ℕ))) (letter : Bor (List ℕ)) (row :
 fields_after fs letter row e h = All-tail IsField letter.now (map (λ f. f.now) row) (subst (λ (l : List (Bor (List ℕ))). All IsField (map (λ f. f.now) l)) e h)
 
 -- a line of a section that has no turn
-pub no_turn : (s : SectionName) (old : Parts) (fs : List (Bor (List ℕ))) (letter : Bor (List ℕ)) (row : List (Bor (List ℕ))) → IsDraft old → All IsField (map (λ f. f.now) fs) → fs ≡ letter ∷ row → letter.now ≡ letter_of s → (HasTurn s old → ⊥) → AddsLine old (line_of (map (λ f. f.now) fs)) old false
+pub no_turn : (s : SectionName) (old : Parts) (fs : List (Bor (List ℕ))) (letter : Bor (List ℕ)) (row : List (Bor (List ℕ))) → IsDraft old → All IsField (map (λ f. f.now) fs) → fs ≡ letter ∷ row → letter.now ≡ letter_of s → (MayComeNext s old → ⊥) → AddsLine old (line_of (map (λ f. f.now) fs)) old false
 no_turn s old fs letter row d f e l off =
     moved_line old old false fs letter row (letter_of s) e l (λ b. off (only s old (map (λ f. f.now) row) d (goes_on old (letter_of s) (map (λ f. f.now) row) d (letter_field s (map (λ f. f.now) row) (fields_after fs letter row e f)) b)).turn)
 

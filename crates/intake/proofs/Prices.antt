@@ -10,8 +10,8 @@ use Rattle.spa.specs.Codes.{code_at}
 use Rattle.spa.specs.Instance.{Supervisor, Project, Student}
 use Rattle.intake.specs.Parts.{Parts, IsPrice, ArePricesOrNone, IsRoundParts}
 use Rattle.intake.specs.Lines.{Row, Priced, priced, price_section, price_rows}
-use Rattle.intake.specs.Inside.PartialRound.{ArePricesUpTo, NoneOrAll, AreUnpriced, AreComplete, ArePricedInTurn}
-use Rattle.intake.specs.Inside.Entries.{NextPrice, NextPriceAt, IsTurn, At, prices_at, with_prices, with_price, AddsOne, AddsPrice}
+use Rattle.intake.specs.Inside.PartialRound.{ArePricesUpTo, NoneOrAll, AreUnpriced, AreComplete, ArePricedInOrder}
+use Rattle.intake.specs.Inside.Entries.{NextPrice, NextPriceAt, ArePricedUpTo, At, prices_at, with_prices, with_price, AddsOne, AddsPrice}
 use Rattle.intake.proofs.PairLine.{all_found}
 use Rattle.intake.proofs.Sections.{NoRows, NextAt, SameRows, Grows}
 
@@ -44,12 +44,12 @@ unpriced_rows [] h = tt
 unpriced_rows (s ∷ ss) h = (ap (price_rows s.codes) h.0 ∙ no_price_rows s.codes, unpriced_rows ss h.1)
 
 -- and without rows no prices
-pub rows_unpriced : (xs : List Priced) → ArePricedInTurn xs → NoRows (map price_section xs) → AreUnpriced xs
+pub rows_unpriced : (xs : List Priced) → ArePricedInOrder xs → NoRows (map price_section xs) → AreUnpriced xs
 rows_unpriced [] d h = tt
 rows_unpriced (s ∷ ss) d h = (nil_from_length s.prices (sym (price_count s.codes s.prices d.0.few) ∙ ap length h.0), rows_unpriced ss d.2 h.1)
 
 -- rolls without prices may have some
-pub unpriced_turn : (xs : List Priced) → AreUnpriced xs → ArePricedInTurn xs
+pub unpriced_turn : (xs : List Priced) → AreUnpriced xs → ArePricedInOrder xs
 unpriced_turn [] h = tt
 unpriced_turn (s ∷ ss) h = (record { few = omega (arith, ap length h.0); prices = subst (All IsPrice) (sym h.0) (All-nil IsPrice) }, inl h.1, unpriced_turn ss h.1)
 
@@ -65,33 +65,33 @@ changed zero vs (s ∷ ss) = record s { prices = vs } ∷ ss
 changed (suc n) vs (s ∷ ss) = s ∷ changed n vs ss
 
 -- they are prices in order
-pub changed_turn : (n : ℕ) (vs : List (List ℤ)) (xs : List Priced) → ArePricedInTurn xs → IsTurn n xs → At n (λ s. ArePricesUpTo (length s.codes) vs) xs → ArePricedInTurn (changed n vs xs)
+pub changed_turn : (n : ℕ) (vs : List (List ℤ)) (xs : List Priced) → ArePricedInOrder xs → ArePricedUpTo n xs → At n (λ s. ArePricesUpTo (length s.codes) vs) xs → ArePricedInOrder (changed n vs xs)
 changed_turn n vs [] d t a = tt
 changed_turn zero vs (s ∷ ss) d t a = (a, inl t, d.2)
 changed_turn (suc n) vs (s ∷ ss) d t a = (d.0, inr t.0, changed_turn n vs ss d.2 t.1 a)
 
 -- they are complete
-pub changed_complete : (n : ℕ) (vs : List (List ℤ)) (xs : List Priced) → IsTurn n xs → At n (λ s. NoneOrAll (length s.codes) vs) xs → AreComplete (changed n vs xs)
+pub changed_complete : (n : ℕ) (vs : List (List ℤ)) (xs : List Priced) → ArePricedUpTo n xs → At n (λ s. NoneOrAll (length s.codes) vs) xs → AreComplete (changed n vs xs)
 changed_complete n vs [] t a = tt
 changed_complete zero vs (s ∷ ss) t a = (a, unpriced_complete ss t)
 changed_complete (suc n) vs (s ∷ ss) t a = (t.0, changed_complete n vs ss t.1 a)
 
 -- they have more rows
-pub changed_grows : (n : ℕ) (vs : List (List ℤ)) (xs : List Priced) (more : List Row) → IsTurn n xs → At n (λ s. price_rows s.codes vs ≡ price_rows s.codes s.prices ++ more) xs
+pub changed_grows : (n : ℕ) (vs : List (List ℤ)) (xs : List Priced) (more : List Row) → ArePricedUpTo n xs → At n (λ s. price_rows s.codes vs ≡ price_rows s.codes s.prices ++ more) xs
     → Grows n (map price_section xs) (map price_section (changed n vs xs)) more
 changed_grows n vs [] more t a = absurd t
 changed_grows zero vs (s ∷ ss) more t a = (refl, a, unpriced_rows ss t, unpriced_rows ss t)
 changed_grows (suc n) vs (s ∷ ss) more t a = (refl, changed_grows n vs ss more t.1 a)
 
 -- they are those of the parts with other prices
-pub priced_changed : (n : ℕ) (vs : List (List ℤ)) (p : Parts) → IsTurn n (priced p) → priced (with_prices n vs p) ≡ changed n vs (priced p)
+pub priced_changed : (n : ℕ) (vs : List (List ℤ)) (p : Parts) → ArePricedUpTo n (priced p) → priced (with_prices n vs p) ≡ changed n vs (priced p)
 priced_changed zero vs p t = refl
 priced_changed (suc zero) vs p t = refl
 priced_changed (suc (suc zero)) vs p t = refl
 priced_changed (suc (suc (suc n))) vs p t = absurd t.1.1.1
 
 -- one price more at position n: they are prices
-pub pushed_prices : (n : ℕ) (xs : List Priced) (row : Row) (v : List ℤ) → ArePricedInTurn xs → At n (λ s. NextPrice s.codes s.prices row v) xs → At n (λ s. ArePricesUpTo (length s.codes) (prices_at n xs ++ v ∷ [])) xs
+pub pushed_prices : (n : ℕ) (xs : List Priced) (row : Row) (v : List ℤ) → ArePricedInOrder xs → At n (λ s. NextPrice s.codes s.prices row v) xs → At n (λ s. ArePricesUpTo (length s.codes) (prices_at n xs ++ v ∷ [])) xs
 pushed_prices n [] row v d t = absurd t
 pushed_prices zero (s ∷ ss) row v d t = record { few = omega (arith, length_push s.prices v, t.few); prices = All-push IsPrice s.prices v d.0.prices t.price }
 pushed_prices (suc n) (s ∷ ss) row v d t = pushed_prices n ss row v d.2 t
@@ -117,7 +117,7 @@ filled zero (s ∷ ss) = s.prices ++ replicate (length s.codes - length s.prices
 filled (suc n) (s ∷ ss) = filled n ss
 
 -- they are all
-pub filled_all : (n : ℕ) (xs : List Priced) → ArePricedInTurn xs → IsTurn n xs → At n (λ s. NoneOrAll (length s.codes) (filled n xs)) xs
+pub filled_all : (n : ℕ) (xs : List Priced) → ArePricedInOrder xs → ArePricedUpTo n xs → At n (λ s. NoneOrAll (length s.codes) (filled n xs)) xs
 filled_all n [] d t = absurd t
 filled_all zero (s ∷ ss) d t =
     let fill : ℕ = length s.codes - length s.prices in
@@ -125,7 +125,7 @@ filled_all zero (s ∷ ss) d t =
 filled_all (suc n) (s ∷ ss) d t = filled_all n ss d.2 t.1
 
 -- they are prices
-pub filled_prices : (n : ℕ) (xs : List Priced) → ArePricedInTurn xs → IsTurn n xs → At n (λ s. ArePricesUpTo (length s.codes) (filled n xs)) xs
+pub filled_prices : (n : ℕ) (xs : List Priced) → ArePricedInOrder xs → ArePricedUpTo n xs → At n (λ s. ArePricesUpTo (length s.codes) (filled n xs)) xs
 filled_prices n [] d t = absurd t
 filled_prices zero (s ∷ ss) d t =
     let fill : ℕ = length s.codes - length s.prices in
@@ -133,13 +133,13 @@ filled_prices zero (s ∷ ss) d t =
 filled_prices (suc n) (s ∷ ss) d t = filled_prices n ss d.2 t.1
 
 -- and their rows more
-pub filled_rows : (n : ℕ) (xs : List Priced) → ArePricedInTurn xs → IsTurn n xs → (more : List Row) × At n (λ s. price_rows s.codes (filled n xs) ≡ price_rows s.codes s.prices ++ more) xs
+pub filled_rows : (n : ℕ) (xs : List Priced) → ArePricedInOrder xs → ArePricedUpTo n xs → (more : List Row) × At n (λ s. price_rows s.codes (filled n xs) ≡ price_rows s.codes s.prices ++ more) xs
 filled_rows n [] d t = absurd t
 filled_rows zero (s ∷ ss) d t = price_more s.codes s.prices (replicate (length s.codes - length s.prices) zeros) d.0.few
 filled_rows (suc n) (s ∷ ss) d t = filled_rows n ss d.2 t.1
 
 -- the prices of one of the rolls are read
-pub some_turn : (s : Priced) (ss : List Priced) → ArePricedInTurn (s ∷ ss) → (n : ℕ) × IsTurn n (s ∷ ss)
+pub some_turn : (s : Priced) (ss : List Priced) → ArePricedInOrder (s ∷ ss) → (n : ℕ) × ArePricedUpTo n (s ∷ ss)
 some_turn s [] d = (0, tt)
 some_turn s (x ∷ ss) d = elim d.1 [ inl none ↦ (0, none) | inr all ↦ (let t = some_turn x ss d.2 in (suc t.0, (all, t.1))) ]
 
@@ -174,7 +174,7 @@ none_or_all cs ds us vs e w h rows =
     elim w.none_or_all [ inl z ↦ inl (omega arith) | inr all ↦ inr (omega arith) ]
 
 -- prices with the rows of a text are complete
-pub all_complete : (us xs : List Priced) → SameCodes us xs → AreAllOrNone us → ArePricedInTurn xs → SameRows (map price_section us) (map price_section xs) → length us ≡ length xs → AreComplete xs
+pub all_complete : (us xs : List Priced) → SameCodes us xs → AreAllOrNone us → ArePricedInOrder xs → SameRows (map price_section us) (map price_section xs) → length us ≡ length xs → AreComplete xs
 all_complete us [] c w d h e = tt
 all_complete [] (x ∷ xs) c w d h e = absurd (omega arith)
 all_complete (u ∷ us) (x ∷ xs) c w d h e = (none_or_all u.codes x.codes u.prices x.prices c.0 w.0 d.0.few h.0, all_complete us xs c.1 w.1 d.2 h.1 (omega arith))
@@ -200,8 +200,8 @@ next_price (c ∷ cs) (u ∷ us) (v ∷ vs) r more h e =
     record { v = a.v; here = a.here; few = omega arith; is = a.is }
 
 -- the next row at position n is that of a price that may come
-pub takes_next : (n : ℕ) (us xs : List Priced) (r : Row) → SameCodes us xs → AreAllOrNone us → ArePricedInTurn xs → NextAt n (map price_section us) (map price_section xs) r
-    → (v : List ℤ) × IsTurn n xs × At n (λ s. NextPrice s.codes s.prices r v) xs
+pub takes_next : (n : ℕ) (us xs : List Priced) (r : Row) → SameCodes us xs → AreAllOrNone us → ArePricedInOrder xs → NextAt n (map price_section us) (map price_section xs) r
+    → (v : List ℤ) × ArePricedUpTo n xs × At n (λ s. NextPrice s.codes s.prices r v) xs
 takes_next n [] xs r c w d h = absurd h
 takes_next n (u ∷ us) [] r c w d h = absurd h
 takes_next zero (u ∷ us) (x ∷ xs) r c w d h =

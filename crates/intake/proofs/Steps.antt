@@ -14,7 +14,7 @@ use Rattle.intake.specs.declared.section.SectionName.TheVariants.{Aims, Supervis
 use Rattle.intake.specs.Parts.{Parts, IsRoll, IsRoundInstance}
 use Rattle.intake.specs.Lines.{Row, choice_code, line, sections, priced, price_section, price_rows, round_lines, supervisor_row, project_row, student_row, pair_rows}
 use Rattle.intake.specs.Inside.PartialRound.{IsDraft, ArePricesUpTo, ArePlaces, EndsPlaced, HasNoPrices}
-use Rattle.intake.specs.Inside.Entries.{ComesNext, NextAim, NextSupervisor, NextProject, NextStudent, NextPair, NextPriceAt, HasTurn, IsNext, IsTurn, At, Entry, with_entry, with_price, with_prices, prices_at, letter_of}
+use Rattle.intake.specs.Inside.Entries.{ComesNext, NextAim, NextSupervisor, NextProject, NextStudent, NextPair, NextPriceAt, MayComeNext, IsNext, ArePricedUpTo, At, Entry, with_entry, with_price, with_prices, prices_at, letter_of}
 use Rattle.intake.proofs.Prices.{unpriced_turn, unpriced_rows, changed_turn, changed_grows, pushed_prices, pushed_rows}
 use Rattle.intake.proofs.Sections.{NoRows, Grows, letter_at, lines_grow}
 
@@ -108,7 +108,7 @@ unpriced_step : (n : ℕ) (p q : Parts) (row : Row) → IsRoundInstance q.instan
 unpriced_step n p q row i places last prices grows = (record { instance = i; places = places; last_place = last; prices = unpriced_turn (priced q) prices }, lines_grow n (sections p) (sections q) (row ∷ []) grows)
 
 -- another aim, which has one row more
-aim_step : (p : Parts) (row : Row) (aim : Aim) → IsDraft p → HasTurn Aims p → NextAim p.aim row aim → Step Aims p row aim
+aim_step : (p : Parts) (row : Row) (aim : Aim) → IsDraft p → MayComeNext Aims p → NextAim p.aim row aim → Step Aims p row aim
 aim_step p row aim d t next =
     let projects = no_projects p d t.0 in
     let students = no_students p d projects in
@@ -116,7 +116,7 @@ aim_step p row aim d t next =
     unpriced_step 0 p (with_entry Aims p aim) row d.instance d.places d.last_place t.1 (refl, next, none, none)
 
 -- a supervisor more
-supervisor_step : (p : Parts) (row : Row) (e : Supervisor) → IsDraft p → HasTurn Supervisors p → NextSupervisor p row e → Step Supervisors p row e
+supervisor_step : (p : Parts) (row : Row) (e : Supervisor) → IsDraft p → MayComeNext Supervisors p → NextSupervisor p row e → Step Supervisors p row e
 supervisor_step p row e d t next =
     let i = d.instance in
     let q : Parts = with_entry Supervisors p e in
@@ -141,7 +141,7 @@ supervisor_step p row e d t next =
     (refl, (refl, rows_push supervisor_row p.instance.supervisors e row next.is, (ap (map project_row) t.0, (students, (pairs, unpriced_rows (priced p) t.1))), (ap (map project_row) t.0, (students, (pairs, unpriced_rows (priced q) t.1)))))
 
 -- a project more
-project_step : (p : Parts) (row : Row) (e : Project) → IsDraft p → HasTurn Projects p → NextProject p row e → Step Projects p row e
+project_step : (p : Parts) (row : Row) (e : Project) → IsDraft p → MayComeNext Projects p → NextProject p row e → Step Projects p row e
 project_step p row e d t next =
     let i = d.instance in
     let q : Parts = with_entry Projects p e in
@@ -165,7 +165,7 @@ project_step p row e d t next =
     (refl, (refl, (refl, rows_push project_row p.instance.projects e row next.is, (ap (map student_row) t.0, (pairs, unpriced_rows (priced p) t.1)), (ap (map student_row) t.0, (pairs, unpriced_rows (priced q) t.1)))))
 
 -- a student more
-student_step : (p : Parts) (row : Row) (e : Student) → IsDraft p → HasTurn Students p → NextStudent p row e → Step Students p row e
+student_step : (p : Parts) (row : Row) (e : Student) → IsDraft p → MayComeNext Students p → NextStudent p row e → Step Students p row e
 student_step p row e d t next =
     let i = d.instance in
     let q : Parts = with_entry Students p e in
@@ -188,7 +188,7 @@ student_step p row e d t next =
     (refl, (refl, (refl, (refl, rows_push student_row p.instance.students e row next.is, (pairs_none p.instance.students p.places t.0, unpriced_rows (priced p) t.1), (pairs_none q.instance.students p.places t.0, unpriced_rows (priced q) t.1)))))
 
 -- a pair more
-pair_step : (p : Parts) (row : Row) (e : ℕ × ℕ) → IsDraft p → HasTurn Pairs p → NextPair p row e.0 e.1 → Step Pairs p row e
+pair_step : (p : Parts) (row : Row) (e : ℕ × ℕ) → IsDraft p → MayComeNext Pairs p → NextPair p row e.0 e.1 → Step Pairs p row e
 pair_step p row e d t next =
     let n : ℕ = e.0 - length p.places in
     let at : slice_get p.instance.students (n + length p.places) ≡ Some next.student = (let same : e.0 ≡ n + length p.places = omega (arith, next.later) in subst (λ (k : ℕ). slice_get p.instance.students k ≡ Some next.student) same next.here) in
@@ -197,7 +197,7 @@ pair_step p row e d t next =
     (refl, (refl, (refl, (refl, (refl, rows, unpriced_rows (priced p) t, unpriced_rows (priced p) t)))))
 
 -- a draft with other prices at position n, whose rows are more
-pub prices_step : (n : ℕ) (vs : List (List ℤ)) (p : Parts) (more : List Row) → IsDraft p → IsTurn n (priced p) → At n (λ s. ArePricesUpTo (length s.codes) vs) (priced p)
+pub prices_step : (n : ℕ) (vs : List (List ℤ)) (p : Parts) (more : List Row) → IsDraft p → ArePricedUpTo n (priced p) → At n (λ s. ArePricesUpTo (length s.codes) vs) (priced p)
     → At n (λ s. price_rows s.codes vs ≡ price_rows s.codes s.prices ++ more) (priced p)
     → IsDraft (with_prices n vs p) × (round_lines (with_prices n vs p) ≡ round_lines p ++ map (line (letter_at n (map price_section (priced p)))) more)
 prices_step zero vs p more d t a g = (
@@ -215,11 +215,11 @@ prices_step (suc (suc zero)) vs p more d t a g = (
 prices_step (suc (suc (suc n))) vs p more d t a g = absurd t.1.1.1
 
 -- a price more
-price_step : (n : ℕ) (p : Parts) (row : Row) (v : List ℤ) → IsDraft p → IsTurn n (priced p) → NextPriceAt n p row v → IsDraft (with_price n p v) × (round_lines (with_price n p v) ≡ round_lines p ++ line (letter_at n (map price_section (priced p))) row ∷ [])
+price_step : (n : ℕ) (p : Parts) (row : Row) (v : List ℤ) → IsDraft p → ArePricedUpTo n (priced p) → NextPriceAt n p row v → IsDraft (with_price n p v) × (round_lines (with_price n p v) ≡ round_lines p ++ line (letter_at n (map price_section (priced p))) row ∷ [])
 price_step n p row v d t next = prices_step n (prices_at n (priced p) ++ v ∷ []) p (row ∷ []) d t (pushed_prices n (priced p) row v d.prices next) (pushed_rows n (priced p) row v next)
 
 -- an entry more of any section
-pub step : (s : SectionName) (p : Parts) (row : Row) (e : Entry s) → IsDraft p → HasTurn s p → IsNext s p row e → Step s p row e
+pub step : (s : SectionName) (p : Parts) (row : Row) (e : Entry s) → IsDraft p → MayComeNext s p → IsNext s p row e → Step s p row e
 step Aims p row aim d t next = aim_step p row aim d t next
 step Supervisors p row e d t next = supervisor_step p row e d t next
 step Projects p row e d t next = project_step p row e d t next

@@ -17,7 +17,7 @@ use Rattle.intake.specs.declared.section.SectionName.TheVariants.{Aims, Supervis
 use Rattle.intake.specs.Parts.{Parts, Rise, IsPlace, IsRoll, IsRoundParts}
 use Rattle.intake.specs.Lines.{Row, choice_code, sections, priced, round_lines, aim_rows, supervisor_row, project_row, student_row, pair_rows}
 use Rattle.intake.specs.Inside.PartialRound.{IsDraft, IsWhole, ArePlaces, EndsPlaced}
-use Rattle.intake.specs.Inside.Entries.{ComesNext, NextAim, NextPriceAt, HasTurn, IsNext, IsTurn, Entry, letter_of}
+use Rattle.intake.specs.Inside.Entries.{ComesNext, NextAim, NextPriceAt, MayComeNext, IsNext, ArePricedUpTo, Entry, letter_of}
 use Rattle.intake.proofs.Order.{cmp_apart, get_found}
 use Rattle.intake.proofs.PairLine.{all_found, get_mapped}
 use Rattle.intake.proofs.Prices.{SameCodes, rows_unpriced, parts_priced, takes_next, all_complete}
@@ -98,7 +98,7 @@ next_entry row key inj new old r most next roll few =
 
 -- the section has its turn, and the row is that of its next entry
 pub record Goes (s : SectionName) (old : Parts) (r : Row) : Type 0 where
-  pub turn : HasTurn s old
+  pub turn : MayComeNext s old
   pub e : Entry s
   pub next : IsNext s old r e
 
@@ -290,7 +290,7 @@ rolls_alike p q e f g = (
 )
 
 -- the line of a price goes on only where the draft takes it
-price_only : (n : ℕ) (old : Parts) (r : Row) → IsDraft old → (p : Parts) → IsRoundParts p → NextAt (suc (suc (suc (suc (suc n))))) (sections p) (sections old) r → (v : List ℤ) × IsTurn n (priced old) × NextPriceAt n old r v
+price_only : (n : ℕ) (old : Parts) (r : Row) → IsDraft old → (p : Parts) → IsRoundParts p → NextAt (suc (suc (suc (suc (suc n))))) (sections p) (sections old) r → (v : List ℤ) × ArePricedUpTo n (priced old) × NextPriceAt n old r v
 price_only n old r d p v at = takes_next n (priced p) (priced old) r (rolls_alike p old at.1.0 at.1.1.0 at.1.1.1.0) (parts_priced p v) d.prices at.1.1.1.1.1
 
 -- a line goes on only where the draft takes it

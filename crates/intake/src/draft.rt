@@ -7,7 +7,7 @@ ghost use Rattle.spa.specs.Made.{IsSoundList};
 ghost use Rattle.intake.specs.Parts.{IsRoll, IsRoundParts};
 ghost use Rattle.intake.specs.declared.section.SectionName.TheVariants.{Aims, Supervisors, Projects, Students, Pairs};
 ghost use Rattle.intake.specs.Inside.PartialRound.{draft_of, IsDraft, HasNoPrices, NoneOrAll, IsField, nothing, IsWhole};
-ghost use Rattle.intake.specs.Inside.Entries.{AddsEntry, AddsPrice, AddsLine, HasTurn, line_of};
+ghost use Rattle.intake.specs.Inside.Entries.{AddsEntry, AddsPrice, AddsLine, MayComeNext, line_of};
 ghost use Rattle.intake.specs.Lines.{round_lines};
 ghost use Rattle.intake.specs.View.{parts_read};
 
@@ -153,8 +153,8 @@ impl PartialRound {
     }
 
     /// Whether a line of a section may come.
-    fn has_turn(&self, section: SectionName) -> bool
-        ensures { IsTrue result ↔ HasTurn section (draft_of self.now) }
+    fn may_come_next(&self, section: SectionName) -> bool
+        ensures { IsTrue result ↔ MayComeNext section (draft_of self.now) }
     {
         match section {
             SectionName::Aims => self.supervisors.is_empty() && self.has_no_prices(),
@@ -322,7 +322,7 @@ impl PartialRound {
         let Some(section) = section_of(letter) else {
             return Ok(false);
         };
-        if !self.has_turn(section) {
+        if !self.may_come_next(section) {
             return Ok(false);
         }
         self.add_to(alloc, section, row)

@@ -45,7 +45,7 @@ module _ (was now : List ℕ) (i y : ℕ) (set_is : now ≡ set was i y) (within
     | inr ne ↦ subst (X j) (sym (count_other j ne)) (old j ne)
   ]
 
-  -- the counts follow where the hole moves from the node a to the node b
+  -- the counts follow where the excess moves from the node a to the node b
   pub counts_follow : (n : ℕ) (node has : ℕ → ℕ) (a b : ℕ) → ((j : ℕ) → j < n → (j ≡ i → ⊥) → one_if (nat_eq (node j) a) ≡ one_if (nat_eq (node j) b))
       → y + one_if (nat_eq (node i) a) ≡ slice_index was i + one_if (nat_eq (node i) b)
       → ((j : ℕ) → j < n → slice_index was j ≡ has j + one_if (nat_eq (node j) a)) → (j : ℕ) → j < n → slice_index now j ≡ has j + one_if (nat_eq (node j) b)

@@ -67,6 +67,7 @@ pub(crate) fn empty_seats(
 {
     let mut lists = Vec::with_capacity(alloc, projects.len())?;
     for i in 0..projects.len() {
+        // Room for the whole quota, so that no push has to allocate: it could not be given up half-way.
         lists.push(Vec::with_capacity(alloc, projects[i].1 as usize)?)?;
     }
     Ok(lists)
@@ -99,6 +100,7 @@ pub(crate) fn all_offered(
 {
     let mut lists = Vec::with_capacity(alloc, supervisors.len())?;
     for i in 0..supervisors.len() {
+        // All projects again for each supervisor: it is done once, when a network starts.
         lists.push(projects_of(alloc, projects, i)?)?;
     }
     Ok(lists)

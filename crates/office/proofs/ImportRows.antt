@@ -8,29 +8,29 @@ use Rattle.rolls.specs.declared.TheConstants.{MAX_IMPORTS}
 use Rattle.rolls.specs.declared.import.Import.{Import}
 use Rattle.rolls.specs.declared.import.ImportKind.{ImportKind}
 use Rattle.rolls.specs.declared.request.Reply.TheVariants as reply
-use Rattle.row_data.specs.declared.table.Table.TheVariants.{Import as ImportTable}
-use Rattle.row_data.specs.declared.row.Change.TheVariants.{Add}
+use Rattle.row_model.specs.declared.table.Table.TheVariants.{Import as ImportTable}
+use Rattle.row_model.specs.declared.row.Change.TheVariants.{Add}
 use Rattle.rolls.specs.declared.refusal.Refusal.{Refusal}
 use Rattle.rolls.specs.declared.refusal.Refusal.TheVariants as no
 use Rattle.rolls.specs.declared.request.Plain.{Plain}
 use Rattle.rolls.specs.declared.request.Done.{Done}
-use Rattle.row_data.specs.declared.row.Change.{Change}
+use Rattle.row_model.specs.declared.row.Change.{Change}
 use Rattle.rolls.specs.Roll.{of_code, find, rises}
 use Rattle.rolls.specs.State.{State, import_key, import_of, has_import, kept_rows}
-use Rattle.rolls.specs.Rows.{Turns, import_cells}
+use Rattle.rolls.specs.Rows.{Transforms, import_cells}
 use Rattle.rolls.specs.Refusing.{first, plain_refusal, import_tests}
 use Rattle.rolls.specs.Stepping.{after_plain}
-use Rattle.rolls.specs.Told.{number_of}
+use Rattle.rolls.specs.RefusalInfo.{number_of}
 use Rattle.rolls.specs.Importing.{or_else, at_record, rows_refusal, after_rows, import_refusal, with_import}
 use Rattle.rolls.specs.Answers.{IsDone, Imports}
 use Rattle.rolls.proofs.NoRefusal.{allowed}
 use Rattle.rolls.specs.Making.{put_or_added, changes_of}
-use Rattle.step_laws.specs.Changes.{changes_of_rows, import_changes}
-use Rattle.step_laws.proofs.ImportChanges.{keep_none}
-use Rattle.row_lists.proofs.Changes.{turns_follow}
-use Rattle.row_lists.proofs.OneRow.{turns_import}
+use Rattle.change_laws.specs.Changes.{changes_of_rows, import_changes}
+use Rattle.change_laws.proofs.ImportChanges.{keep_none}
+use Rattle.change_laws.proofs.Changes.{transforms_follow}
+use Rattle.change_laws.proofs.OneRow.{transforms_import}
 use Rattle.office.specs.Inside.Importing.{AreMade}
-use Rattle.office.proofs.ReadAnswers.{no_turns}
+use Rattle.office.proofs.ReadAnswers.{none_transforms}
 
 -- an import's row is added
 abbrev pub import_added : Import → Change
@@ -40,7 +40,7 @@ import_added i = Add (record { table = ImportTable; cells = import_cells i })
 pub record IsUnderWay (rows rest : List Plain) (old now : State) (changes : List Change) (made : ℕ) : Type 0 where
   pub refusal : rows_refusal 1 old rows ≡ rows_refusal (made + 1) now rest
   pub after : after_rows rows old ≡ after_rows rest now
-  pub turns : Turns changes old now
+  pub transforms : Transforms changes old now
   pub exact : changes_of_rows rows old ≡ changes ++ changes_of_rows rest now
   pub counted : made + length rest ≡ length rows
 
@@ -49,7 +49,7 @@ pub none_made : (rows all : List Plain) (old : State) → all ≡ rows → IsUnd
 none_made rows all old is = record {
   refusal = ap (rows_refusal 1 old) (sym is);
   after = ap (λ (ps : List Plain). after_rows ps old) (sym is);
-  turns = no_turns old;
+  transforms = none_transforms old;
   exact = ap (λ (ps : List Plain). changes_of_rows ps old) (sym is);
   counted = let same = ap length is in omega (arith, same);
 }
@@ -72,7 +72,7 @@ module _ (rows left rest : List Plain) (p : Plain) (old now : State) (changes : 
         ∙ ap (λ (k : ℕ). rows_refusal k (after_plain p now) rest) (let one : suc (made + 1) ≡ (made + 1) + 1 = omega arith in one)
         ∙ ap (λ (o : State). rows_refusal ((made + 1) + 1) o rest) (sym is.after);
     after = way.after ∙ ap (λ (ps : List Plain). after_rows ps now) next ∙ ap (after_rows rest) (sym is.after);
-    turns = subst (λ (cs : List Change). Turns cs old new) (sym added) (turns_follow changes done.changes.items _ _ _ way.turns is.changes);
+    transforms = subst (λ (cs : List Change). Transforms cs old new) (sym added) (transforms_follow changes done.changes.items _ _ _ way.transforms is.changes);
     exact =
         way.exact
         ∙ ap (λ (ps : List Plain). changes ++ changes_of_rows ps now) next
@@ -84,7 +84,7 @@ module _ (rows left rest : List Plain) (p : Plain) (old now : State) (changes : 
 
 -- nothing is left
 pub all_made : (rows rest : List Plain) (old now : State) (changes : List Change) (made : ℕ) → length rest ≡ 0 → IsUnderWay rows rest old now changes made → AreMade rows old now changes
-all_made rows [] old now changes made none way = record { allowed = way.refusal; after = sym way.after; turns = way.turns; exact = sym (way.exact ∙ append-nil changes) }
+all_made rows [] old now changes made none way = record { allowed = way.refusal; after = sym way.after; transforms = way.transforms; exact = sym (way.exact ∙ append-nil changes) }
 all_made rows (p ∷ rest) old now changes made none way = absurd (omega (arith, none))
 
 -- ---- the import
@@ -122,7 +122,7 @@ module _ (id : List ℕ) (kind : ImportKind) (bytes : List ℕ) (rows : List Pla
         allowed = ap (λ (x : Option Refusal). or_else x (if has_import old id then None else rows_refusal 1 old rows)) passed ∙ ap (λ (b : Bool). if b then None else rows_refusal 1 old rows) kept;
         after = sym (ap (λ (b : Bool). if b then old else with_import (record { id = id; kind = kind; bytes = bytes; rows = length rows }) (after_rows rows old)) kept);
         reply = answer ∙ sym (ap (λ (x : Option ℕ). reply.Rows (unwrap_or x (length rows))) is);
-        changes = subst (λ (cs : List Change). Turns cs old old) (sym none) (no_turns old);
+        changes = subst (λ (cs : List Change). Transforms cs old old) (sym none) (none_transforms old);
       }
 
   module _ (free : kept_rows old id ≡ None) where
@@ -146,10 +146,10 @@ module _ (id : List ℕ) (kind : ImportKind) (bytes : List ℕ) (rows : List Pla
           ∙ (allowed (import_tests old id kind bytes) passed).1.1.1.0
 
       -- its row is added
-      row_added : rises import_key old.imports ≡ true → (i : Import) → i.id ≡ id → Turns (import_added i ∷ []) mid (with_import i mid)
-      row_added rise i own = subst (λ (b : Bool). Turns (put_or_added b (record { table = ImportTable; cells = import_cells i }) ∷ []) mid (with_import i mid))
+      row_added : rises import_key old.imports ≡ true → (i : Import) → i.id ≡ id → Transforms (import_added i ∷ []) mid (with_import i mid)
+      row_added rise i own = subst (λ (b : Bool). Transforms (put_or_added b (record { table = ImportTable; cells = import_cells i }) ∷ []) mid (with_import i mid))
           (ap (has_import mid) own ∙ ap (λ (is : List Import). is_some (find import_key (of_code id) is)) private_same ∙ private_new)
-          (turns_import i mid (ap (rises import_key) private_same ∙ rise))
+          (transforms_import i mid (ap (rises import_key) private_same ∙ rise))
 
       -- all rows were made, and it is stored
       pub import_made : rises import_key old.imports ≡ true → (new : State) → new ≡ with_import (record { id = id; kind = kind; bytes = bytes; rows = length rows }) mid → (done : Done) → done.reply ≡ reply.Rows (length rows)
@@ -160,6 +160,6 @@ module _ (id : List ℕ) (kind : ImportKind) (bytes : List ℕ) (rows : List Pla
             allowed = rows_decide ∙ made.allowed;
             after = is ∙ ap (with_import i) made.after ∙ sym (ap (λ (b : Bool). if b then old else with_import i (after_rows rows old)) private_new);
             reply = answer ∙ sym (ap (λ (x : Option ℕ). reply.Rows (unwrap_or x (length rows))) free);
-            changes = subst (λ (cs : List Change). Turns cs old new) (sym changed)
-                (turns_follow changes (import_added i ∷ []) _ _ _ made.turns (subst (Turns (import_added i ∷ []) mid) (sym is) (row_added rise i refl)));
+            changes = subst (λ (cs : List Change). Transforms cs old new) (sym changed)
+                (transforms_follow changes (import_added i ∷ []) _ _ _ made.transforms (subst (Transforms (import_added i ∷ []) mid) (sym is) (row_added rise i refl)));
           }

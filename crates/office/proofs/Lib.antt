@@ -1,4 +1,3 @@
-pub mod RankCounts
 pub mod Made
 pub mod ListPuts
 pub mod Few

@@ -13,8 +13,8 @@ use Rattle.rolls.specs.Refusing.{plain_refusal, list_tests, reopening_tests}
 use Rattle.rolls.proofs.NoRefusal.{allowed}
 use Rattle.rolls.proofs.LastRound.{some_round}
 use Rattle.rolls.specs.Fit.{IsFit}
-use Rattle.step_laws.proofs.Entries.{not_false}
-use Rattle.step_laws.proofs.KnownChoices.{choices_known}
+use Rattle.change_laws.proofs.Entries.{not_false}
+use Rattle.change_laws.proofs.KnownChoices.{choices_known}
 
 open_found : (x : Option Round) → option_map_or (λ r. r.is_open) x false ≡ true → is_some x ≡ true
 open_found None h = cc

@@ -7,24 +7,24 @@ use Rattle.rolls.specs.declared.request.Done.{Done}
 use Rattle.rolls.specs.Roll.{put}
 use Rattle.rolls.specs.State.{State, round_key, round_of, last_round}
 use Rattle.rolls.specs.Fit.{IsFit}
-use Rattle.rolls.specs.Rows.{Turns}
+use Rattle.rolls.specs.Rows.{Transforms}
 use Rattle.rolls.specs.Refusing.{plain_refusal}
 use Rattle.rolls.specs.Stepping.{after_plain, plain_reply, with_last}
 use Rattle.rolls.specs.Answers.{IsDone}
 use Rattle.rolls.specs.Making.{changes_of}
-use Rattle.step_laws.proofs.StaysFit.{stays_fit}
-use Rattle.row_lists.proofs.PlainTurns.{changes_turn}
+use Rattle.change_laws.proofs.StaysFit.{stays_fit}
+use Rattle.change_laws.proofs.PlainTransforms.{changes_transform}
 
 module _ (q : Plain) (inside old : State) (seen : inside ≡ old) (none : plain_refusal old q ≡ None) (fit : IsFit inside) where
   pub made_fit : (new : State) → new ≡ after_plain q old → IsFit new
   made_fit new is = subst IsFit (sym is) (stays_fit q old (subst IsFit seen fit) none)
 
-  pub made_done : (new : State) → new ≡ after_plain q old → (done : Done) → done.reply ≡ plain_reply q old → done.changes.items ≡ changes_of q old → IsDone q old new done
+  pub made_done : (new : State) → new ≡ after_plain q old → (done : Done) → Some done.reply ≡ plain_reply q old → done.changes.items ≡ changes_of q old → IsDone q old new done
   made_done new is done answer changed = record {
     allowed = none;
     after = is;
     reply = answer;
-    changes = subst (λ cs. Turns cs old new) (sym changed) (subst (Turns (changes_of q old) old) (sym is) (changes_turn q old (subst IsFit seen fit) none));
+    changes = subst (λ cs. Transforms cs old new) (sym changed) (subst (Transforms (changes_of q old) old) (sym is) (changes_transform q old (subst IsFit seen fit) none));
   }
 
 -- the last round was put in its place

@@ -7,7 +7,7 @@
 //!
 //! Promised: `refusal_of` names the first refusal that applies, and allocates nothing; `apply` makes
 //! exactly the step of the request, with exactly its changes in their order, which transform the rows of the
-//! office before into those of the office after; after a refusal the office is as before; `from_rows`
+//! office before into those of the office after; after a refusal the office is as before; `decoding`
 //! gives the office of the rows, and calls rows unfit only where no office has them. Begin with
 //! `office.rt`.
 #![tactic(auto)]
@@ -15,6 +15,6 @@
 mod making;
 mod office;
 
-pub use from_rows::RowsFault;
+pub use decoding::RowsFault;
 pub use office::Office;
 pub use rolls::{Change, Done, Plain, Refusal, Reply, Request, Row};

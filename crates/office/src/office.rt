@@ -16,9 +16,9 @@ ghost use Rattle.rolls.specs.Refusing.{first, plain_refusal, refusal_of, round_t
 ghost use Rattle.rolls.specs.Answers.{Answers, IsDone};
 ghost use Rattle.rolls.specs.Rows.{AreRowsOf};
 ghost use Rattle.rolls.specs.Making.{changes_of};
-ghost use Rattle.from_rows.specs.View.{drafted};
+ghost use Rattle.decoding.specs.View.{drafted};
 
-use from_rows::{PartialOffice, RowsFault, gather};
+use decoding::{PartialOffice, RowsFault, gather};
 use rolls::{
     Done, Entries, Import, Placement, Plain, Project, Refusal, Reply, Request, Round, RoundAim,
     Row, Student, Supervisor,

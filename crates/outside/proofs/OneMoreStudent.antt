@@ -28,8 +28,8 @@ use Rattle.rolls.proofs.Found.{holds_of_found}
 use Rattle.rolls.proofs.LastRound.{last_kept, reading_kept}
 use Rattle.closing.proofs.Entries.{find_made}
 use Rattle.closing.proofs.UniqueCodes.{same_as_itself}
-use Rattle.step_laws.proofs.StayingRounds.{lists_changed}
-use Rattle.outside.specs.Sittings.{IsSameRound, IsSessionOf, IsFirstList, MayJoin}
+use Rattle.change_laws.proofs.StayingRounds.{lists_changed}
+use Rattle.outside.specs.SessionRounds.{IsSameRound, IsSessionOf, IsFirstList, MayJoin}
 
 -- ---- an instance by positions with one student more
 
@@ -236,8 +236,8 @@ module _ (o n : State) (student : List ℕ) (first : IsFirstList o student n) (o
         (same.found student ∙ find_made list_key listed (λ e. e.code) (λ e. refl) student (lists_of o (last_round o)) ∙ ap (λ (x : Option Listed). option_map listed x) none_before)
 
     -- and with it the instance is that of the round after
-    pub sits_after : (sitting : SessionState) → sitting.aim ≡ aim_of n (last_round n) → with_list i.shape list ≡ sitting.shape → IsSessionOf n sitting
-    sits_after sitting aim here = record {
+    pub mirrors_after : (session : SessionState) → session.aim ≡ aim_of n (last_round n) → with_list i.shape list ≡ session.shape → IsSessionOf n session
+    mirrors_after session aim here = record {
       is_open = still_open;
       aim = aim;
       named = with_one i student list;
@@ -250,16 +250,16 @@ module _ (o n : State) (student : List ℕ) (first : IsFirstList o student n) (o
     }
 
 -- a student who may join the session has a list in the round
-pub joins_listed : (n : State) (sitting : SessionState) (student : List ℕ) → MayJoin n sitting student → IsSome (list_of n (last_round n) student)
-joins_listed n sitting student joins = ap (λ (x : Option Listed). is_some x) (found_own joins.before n student joins.put joins.sat.is_open)
+pub joins_listed : (n : State) (session : SessionState) (student : List ℕ) → MayJoin n session student → IsSome (list_of n (last_round n) student)
+joins_listed n session student joins = ap (λ (x : Option Listed). is_some x) (found_own joins.before n student joins.put joins.sat.is_open)
 
-module _ (n : State) (sitting : SessionState) (student : List ℕ) (joins : MayJoin n sitting student) (fit : IsFit n) (few : length (lists_of n (last_round n)) ≤ MAX_STUDENTS) (list : List ℕ) (ranking : IsRanking (project_codes (round_instance n)) (choices_in n (last_round n) student) list) where
+module _ (n : State) (session : SessionState) (student : List ℕ) (joins : MayJoin n session student) (fit : IsFit n) (few : length (lists_of n (last_round n)) ≤ MAX_STUDENTS) (list : List ℕ) (ranking : IsRanking (project_codes (round_instance n)) (choices_in n (last_round n) student) list) where
   -- the list of a student who may join the session may be admitted
-  pub joins_admitted : MayAdmit sitting.shape list
+  pub joins_admitted : MayAdmit session.shape list
   joins_admitted = subst (λ (s : Shape). MayAdmit s list) joins.sat.here (may_admit joins.before n student joins.put joins.sat.is_open fit few joins.sat.named joins.sat.fit joins.sat.same list ranking)
 
-  -- and then the session sits in the office
-  pub joins_sits : (new : SessionState) → new.aim ≡ sitting.aim → new.shape ≡ with_list sitting.shape list → IsSessionOf n new
-  joins_sits new aim is =
-      sits_after joins.before n student joins.put joins.sat.is_open fit few joins.sat.named joins.sat.fit joins.sat.same list ranking new (aim ∙ joins.sat.aim ∙ sym (same_aim joins.before n student joins.put joins.sat.is_open))
+  -- and then the session mirrors the office
+  pub joins_mirrors : (new : SessionState) → new.aim ≡ session.aim → new.shape ≡ with_list session.shape list → IsSessionOf n new
+  joins_mirrors new aim is =
+      mirrors_after joins.before n student joins.put joins.sat.is_open fit few joins.sat.named joins.sat.fit joins.sat.same list ranking new (aim ∙ joins.sat.aim ∙ sym (same_aim joins.before n student joins.put joins.sat.is_open))
       (ap (λ (s : Shape). with_list s list) joins.sat.here ∙ sym is)

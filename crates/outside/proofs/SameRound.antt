@@ -10,11 +10,11 @@ use Rattle.spa.specs.declared.aim.Aim.{Aim}
 use Rattle.spa.specs.Order.{Precedes, ranks_read}
 use Rattle.spa.specs.Instance.{Instance, Supervisor, Project, Student}
 use Rattle.spa.specs.Coded.{CodePair, choices_of, IsMatchingByCodes, IsBestByCodes}
-use Rattle.outside.specs.Sittings.{IsSameRound}
+use Rattle.outside.specs.SessionRounds.{IsSameRound}
 
 -- the other way round
-pub turned_round : (l m : Instance) → IsSameRound l m → IsSameRound m l
-turned_round l m same = record {
+pub transformed_round : (l m : Instance) → IsSameRound l m → IsSameRound m l
+transformed_round l m same = record {
   supervisors = sym same.supervisors;
   projects = sym same.projects;
   found = λ code. sym (same.found code);
@@ -44,7 +44,7 @@ module _ (l m : Instance) (same : IsSameRound l m) where
 -- a matching that is best by an aim is so in both
 pub best_same : (aim : Aim) (l m : Instance) → IsSameRound l m → (M : List CodePair) → IsBestByCodes aim l M → IsBestByCodes aim m M
 best_same aim l m same M h =
-    let back = matching_same m l (turned_round l m same) in
+    let back = matching_same m l (transformed_round l m same) in
     record {
       matching = matching_same l m same M h.matching;
       largest = λ N n. h.largest N (back N n);

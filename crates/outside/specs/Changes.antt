@@ -4,12 +4,12 @@ use Rattle.spa.specs.Coded.{CodePair}
 use Rattle.rolls.specs.State.{State, aim_of, last_round}
 use Rattle.rolls.specs.Instances.{round_instance}
 use Rattle.rolls.specs.Closing.{MayClose}
-use Rattle.row_data.specs.declared.row.Change.{Change}
+use Rattle.row_model.specs.declared.row.Change.{Change}
 use Rattle.rolls.specs.declared.request.Plain.{Plain}
 use Rattle.rolls.specs.declared.request.Request.{Request}
 use Rattle.rolls.specs.declared.request.Request.TheVariants as request
 use Rattle.rolls.specs.Making.{changes_of}
-use Rattle.step_laws.specs.Changes.{import_changes}
+use Rattle.change_laws.specs.Changes.{import_changes}
 use Rattle.closing.specs.Changes.{close_changes}
 use Rattle.outside.specs.Layers.{layers}
 

@@ -11,7 +11,7 @@ use Rattle.imports.specs.declared.fault.ImportFault.{ImportFault}
 use Rattle.imports.specs.declared.fault.ImportFault.TheVariants.{Memory, Header, Fields}
 use Rattle.imports.specs.Requests.{requests_of}
 
--- the refusal of a text that is no import text; a record with another number of fields is one whose members are wrong
+-- the refusal of a text that is no import text: a record with too many or too few fields is refused as wrong members are, by 8
 abbrev pub refused_as : ImportFault → Refusal
 refused_as Memory = no.Memory
 refused_as Header = no.Header

@@ -1,3 +1,3 @@
 pub mod Layers
 pub mod Changes
-pub mod Sittings
+pub mod SessionRounds

@@ -6,16 +6,16 @@
 //! touches a table: `desk` does.
 //!
 //! Promised: each function makes exactly the step of its request, or refuses it as the definition does; out of memory the
-//! office is as before. A session sits in an office where it has the rolls and the lists of its open round, the lists in any order
-//! (`specs/Sittings.antt`): a preview that is read from it is what closing the round would answer.
+//! office is as before. A session mirrors an office where it has the rolls and the lists of its open round, the lists in any order
+//! (`specs/SessionRounds.antt`): a preview that is read from it is what closing the round would answer.
 #![tactic(auto)]
 
-mod sitting;
+mod session;
 
 ghost use Rattle.std.specs.Prelude.{◌≡◌, ◌⊎◌, ◌-◌, ◌^◌, IfOk, IfErr, OnErr, IsTrue, Some, None, false};
 ghost use Rattle.rolls.specs.State.{round_is_open, has_import};
 ghost use Rattle.rolls.specs.Refusing.{refusal_of};
-ghost use Rattle.rolls.specs.Rows.{Turns};
+ghost use Rattle.rolls.specs.Rows.{Transforms};
 ghost use Rattle.rolls.specs.Run.{Makes, refusal};
 ghost use Rattle.rolls.specs.declared.request.Request.TheVariants as request;
 ghost use Rattle.imports.specs.Requests.{IsRecordOf};
@@ -27,7 +27,7 @@ use intake::{ImportFault, read_import};
 use office::Office;
 use reports::instance_text;
 use rolls::{Bytes, Done, ImportKind, Refusal, Reply, ReportKind, Text};
-pub use sitting::{join, read_preview, sit};
+pub use session::{join, read_preview, start_session};
 use solver::solve;
 use std::alloc::{AllocError, Global};
 
@@ -35,7 +35,7 @@ use std::alloc::{AllocError, Global};
 pub fn close(alloc: Global, office: &mut Office) -> Result<Done, AllocError>
     requires open { IsTrue (round_is_open office.old) }
     ensures made { IfOk result (λ done. Makes layers office.old request.Close done.reply office.new) }
-    ensures turns { IfOk result (λ done. Turns done.changes.items office.old office.new) }
+    ensures transforms { IfOk result (λ done. Transforms done.changes.items office.old office.new) }
     ensures changes { IfOk result (λ done. MayChange office.old request.Close done.changes.items) }
     ensures memory { OnErr result (office.new ≡ office.old) }
 {
@@ -102,7 +102,7 @@ pub fn import(
     requires allowed { refusal_of office.old (request.Import id kind bytes) ≡ None }
     ensures made { IfOk result (λ done. Makes layers office.old (request.Import id kind bytes) done.reply office.new) }
     ensures named { IfOk result (λ _. refusal layers office.old (request.Import id kind bytes) ≡ None) }
-    ensures turns { IfOk result (λ done. Turns done.changes.items office.old office.new) }
+    ensures transforms { IfOk result (λ done. Transforms done.changes.items office.old office.new) }
     ensures changes { IfOk result (λ done. MayChange office.old (request.Import id kind bytes) done.changes.items) }
     ensures refused { IfErr result (λ r. (r ≡ Refusal.Memory) ⊎ (refusal layers office.old (request.Import id kind bytes) ≡ Some r)) }
     ensures same { OnErr result (office.new ≡ office.old) }

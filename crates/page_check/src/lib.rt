@@ -1,12 +1,12 @@
 //! The lines on round files for a host that is no program, such as a page in a browser: bytes in, bytes out.
 //!
 //! Promised: what `page_check` and `page_solve` put into `out` is what `spadesk check FILE` and `spadesk solve FILE` print of the
-//! same bytes. Begin with `specs/Told.antt`. What a host owes, nothing here can hold it to: `text` and `out` are memory of the
+//! same bytes. Begin with `specs/Printed.antt`. What a host owes, nothing here can hold it to: `text` and `out` are memory of the
 //! module, separate from each other and from its heap.
 #![tactic(auto)]
 
 ghost use Rattle.std.specs.Prelude.{◌≡◌, ◌≢◌, IfOk, take, string_bytes};
-ghost use Rattle.page_check.specs.Told.{line_of, refused_line, IsToldOfCheck, IsToldOfSolve};
+ghost use Rattle.page_check.specs.Printed.{line_of, refused_line, IsPrintedByCheck, IsPrintedBySolve};
 
 use rolls::Refusal;
 use round_files::{Trouble, checked, solved};
@@ -17,9 +17,9 @@ use std::fmt::Write;
 /// or room is short.
 #[unsafe(no_mangle)]
 pub extern "C" fn page_check(alloc: Global, text: &[u8], out: &mut [u8]) -> usize
-    ensures { result ≢ 0 → IsToldOfCheck text.now (take result out.new) }
+    ensures { result ≢ 0 → IsPrintedByCheck text.now (take result out.new) }
 {
-    match told(alloc, checked(alloc, text)) {
+    match printed(alloc, checked(alloc, text)) {
         Ok(line) => put(out, line.as_bytes()),
         Err(_) => 0,
     }
@@ -29,16 +29,16 @@ pub extern "C" fn page_check(alloc: Global, text: &[u8], out: &mut [u8]) -> usiz
 /// or room is short.
 #[unsafe(no_mangle)]
 pub extern "C" fn page_solve(alloc: Global, text: &[u8], out: &mut [u8]) -> usize
-    ensures { result ≢ 0 → IsToldOfSolve text.now (take result out.new) }
+    ensures { result ≢ 0 → IsPrintedBySolve text.now (take result out.new) }
 {
-    match told(alloc, solved(alloc, text)) {
+    match printed(alloc, solved(alloc, text)) {
         Ok(line) => put(out, line.as_bytes()),
         Err(_) => 0,
     }
 }
 
 /// Returns what the program prints of a result.
-fn told(alloc: Global, came: Result<String, Trouble>) -> Result<String, AllocError>
+fn printed(alloc: Global, came: Result<String, Trouble>) -> Result<String, AllocError>
     ensures { IfOk result (λ text. string_bytes text ≡ line_of came) }
 {
     match came {

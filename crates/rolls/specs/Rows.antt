@@ -2,12 +2,12 @@
 use Rattle.std.specs.Prelude.{ℕ, suc, Bool, true, false, List, [], ◌∷◌, map, flat_map, if◌then◌else◌}
 use Rattle.spa.specs.declared.aim.Aim.{Aim}
 use Rattle.spa.specs.declared.aim.Aim.TheVariants.{Greedy, Generous}
-use Rattle.row_data.specs.declared.cell.Cell.{Cell}
-use Rattle.row_data.specs.declared.cell.Cell.TheVariants.{Text, Number, Bytes}
-use Rattle.row_data.specs.declared.row.Change.{Change}
-use Rattle.row_data.specs.declared.table.Table.TheVariants.{Supervisor, Project, Student, Round, Import, RoundAim, Choice, Placement}
-use Rattle.row_data.specs.Rows.{Cells, AllRows, RowOf, SameRows, of_table}
-use Rattle.row_data.specs.Changes.{TurnsRows}
+use Rattle.row_model.specs.declared.cell.Cell.{Cell}
+use Rattle.row_model.specs.declared.cell.Cell.TheVariants.{Text, Number, Bytes}
+use Rattle.row_model.specs.declared.row.Change.{Change}
+use Rattle.row_model.specs.declared.table.Table.TheVariants.{Supervisor, Project, Student, Round, Import, RoundAim, Choice, Placement}
+use Rattle.row_model.specs.Rows.{Cells, AllRows, RowOf, SameRows, of_table}
+use Rattle.row_model.specs.Changes.{TransformsRows}
 use Rattle.rolls.specs.declared.entries.Supervisor.{Supervisor as SupervisorEntry}
 use Rattle.rolls.specs.declared.entries.Project.{Project as ProjectEntry}
 use Rattle.rolls.specs.declared.entries.Student.{Student as StudentEntry}
@@ -73,7 +73,7 @@ list_rows round l = choice_rows round l.student 1 l.choices
 abbrev pub rows_of_round : RoundEntry → List Cells
 rows_of_round r = flat_map (list_rows r.number) r.lists
 
--- the rows that an office has in a table: none in that of the edition, and none in those of earlier editions
+-- the rows of an office in each table; none in that of the edition, which the office does not know, and none in those of earlier editions
 abbrev pub rows_in : State → AllRows
 rows_in o Supervisor = map supervisor_cells o.supervisors
 rows_in o Project = map project_cells o.projects
@@ -90,5 +90,5 @@ abbrev pub AreRowsOf : List RowOf → State → Type 0
 AreRowsOf rows o = SameRows (of_table rows) (rows_in o)
 
 -- changes transform the rows of one office into those of another
-abbrev pub Turns : List Change → State → State → Type 0
-Turns changes old new = TurnsRows changes (rows_in old) (rows_in new)
+abbrev pub Transforms : List Change → State → State → Type 0
+Transforms changes old new = TransformsRows changes (rows_in old) (rows_in new)

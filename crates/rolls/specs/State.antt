@@ -81,7 +81,7 @@ round_of o n = find round_key (of_number n) o.rounds
 abbrev pub round_aim_of : State → ℕ → Option RoundAim
 round_aim_of o n = find aim_key (of_number n) o.aims
 
--- the aim of a round
+-- the aim of a round, and greedy where none is stored; a fit office stores one for each of its rounds
 abbrev pub aim_of : State → ℕ → Aim
 aim_of o n = option_map_or (λ a. a.aim) (round_aim_of o n) Greedy
 
@@ -193,6 +193,6 @@ placed_in_project_by o n code = count_by (λ p. nat_le p.round n && bytes_eq cod
 abbrev pub placed_in_round : State → ℕ → ℕ
 placed_in_round o n = count_by (λ p. p.round == n) o.placements
 
--- how many of them at a rank
+-- how many students a round placed at a rank; the rank of a pair is stored with it when the round is closed
 abbrev pub placed_at_rank : State → ℕ → ℕ → ℕ
 placed_at_rank o n rank = count_by (λ p. (p.round == n) && (p.rank == rank)) o.placements

@@ -1,14 +1,15 @@
 -- What a request that is not refused makes of the office, and its answer.
+use Rattle.std.specs.Prelude.{Option}
 use Rattle.rolls.specs.declared.request.Reply.{Reply}
 use Rattle.rolls.specs.State.{State}
 use Rattle.rolls.specs.declared.request.Plain.{Plain}
-pub use Rattle.rolls.specs.Moves.{with_last, after_opening, after_reopening, counted, by_rank, answer_of}
+pub use Rattle.rolls.specs.Moves.{with_last, after_opening, after_reopening, by_rank}
 use Rattle.rolls.specs.Meaning.{meaning}
 
 -- the office after a plain request
 abbrev pub after_plain : Plain → State → State
 after_plain q o = let m = meaning q in m.after o
 
--- the answer to a plain request
-abbrev pub plain_reply : Plain → State → Reply
+-- the answer to a plain request, where there is one
+abbrev pub plain_reply : Plain → State → Option Reply
 plain_reply q o = let m = meaning q in m.reply o

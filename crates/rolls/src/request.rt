@@ -6,7 +6,7 @@ ghost use Rattle.rolls.specs.Reads.{is_read};
 use crate::import::ImportKind;
 use crate::report::ReportKind;
 use crate::rounds::{Choices, Placement};
-use row_data::{Bytes, Change, Text, Texts};
+use row_model::{Bytes, Change, Text, Texts};
 use spa::{Aim, Code, Label, RANKS};
 
 /// A request that needs nothing but the office. Texts and quotas come as they were sent, for the office

@@ -3,7 +3,7 @@
 ghost use Rattle.std.specs.Prelude.{◌≡◌};
 
 use crate::sorted::Entries;
-use row_data::Shared;
+use row_model::Shared;
 use spa::{Aim, Code};
 
 /// The projects that a student lists, by their codes, first choice first.

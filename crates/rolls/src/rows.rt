@@ -7,7 +7,7 @@ ghost use Rattle.rolls.specs.Rows.{aim_cells, choice_cells, flag, import_cells, 
 use crate::entries::{Project, Student, Supervisor};
 use crate::import::Import;
 use crate::rounds::{Placement, RoundAim};
-use row_data::{Cell, Group, Part, Row, Table};
+use row_model::{Cell, Group, Part, Row, Table};
 use spa::Aim;
 use std::alloc::{AllocError, Global};
 

@@ -51,7 +51,7 @@ fn compare_with_solved(alloc: Global, aim: Aim, rows: &[Rolls]) -> Result<(), Fa
 }
 
 #[test]
-fn sessions_tell_what_is_solved(rt: HostRuntime) -> Result<(), Fail> {
+fn sessions_return_what_is_solved(rt: HostRuntime) -> Result<(), Fail> {
     compare_with_solved(rt.alloc(), Aim::Greedy, ROLLS.as_slice())?;
     compare_with_solved(rt.alloc(), Aim::Generous, ROLLS.as_slice())
 }

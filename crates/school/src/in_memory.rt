@@ -1,9 +1,9 @@
 //! Offices in memory: files whose rows are parted into offices.
 
-use plays::offices::play_office;
 use std::process::Termination;
 use std::rt::HostRuntime;
 use std::test::Fail;
+use test_support::offices::play_office;
 
 /// What parts the offices of a file.
 const OFFICE: &str = "\n== ";

@@ -6,12 +6,12 @@ use crate::row_files::compare;
 use crate::texts::{matches_cell, numbered, range, written_out};
 use crate::unplayed::Unplayed;
 use desk::Desk;
-use plays::cells::first_cell;
-use plays::played::asked;
 use sqlite::{Alter, Connection, FileStore, Unknown};
 use sqlite_disk::Disk;
 use std::rt::HostRuntime;
 use std::str;
+use test_support::cells::first_cell;
+use test_support::played::asked;
 
 /// Whether a request was answered by this status and this body.
 fn is_answer(rt: &HostRuntime, written: &[u8], status: &str, body: &str) -> Result<bool, Unplayed> {

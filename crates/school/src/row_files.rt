@@ -5,9 +5,9 @@ use crate::over_files::{Over, do_on};
 use crate::texts::{matches_cell, summed, written_out};
 use crate::unplayed::Unplayed;
 use cli::line;
-use plays::cells::{body_of, first_cell};
 use std::rt::HostRuntime;
 use std::{fs, str};
+use test_support::cells::{body_of, first_cell};
 
 /// What a command printed on standard output and on standard error, and its status.
 #[derive(Drop)]

@@ -6,9 +6,9 @@
 //! A cell `^#LENGTH HASH` stands for LENGTH bytes with this hash, which is that of the lot: FNV-1a.
 
 use crate::unplayed::Unplayed;
-use plays::cells::body_of;
 use std::alloc::Global;
 use std::fmt::Write;
+use test_support::cells::body_of;
 
 /// Returns the next number of a text, and what comes after the blank that follows it.
 fn number(text: &str) -> Result<(u32, &str), Unplayed> {

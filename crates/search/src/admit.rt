@@ -7,6 +7,7 @@ use std::alloc::AllocError;
 
 /// Returns what the best choice of a student gains over what it costs, and nothing if none gains.
 fn gain(network: &Network, student: usize) -> Packed {
+    // Sums wrap, here and in the whole search: no bound of them is proved, and prices that went wrong are not accepted.
     let mut gain = 0;
     for (project, worth) in network.list(student).iter().zip(&network.worths) {
         gain = gain.max(worth.wrapping_sub(network.nodes[*project].potential));
@@ -14,7 +15,7 @@ fn gain(network: &Network, student: usize) -> Packed {
     gain
 }
 
-/// Raises the potential of a node.
+/// Migrates the potential of a node.
 fn lift(network: &mut Network, node: usize, by: Packed) {
     let node = &mut network.nodes[node];
     node.potential = node.potential.wrapping_add(by);
@@ -22,6 +23,7 @@ fn lift(network: &mut Network, node: usize, by: Packed) {
 
 /// Makes a project cost this much more, if it is full, and its students gain as much less.
 fn raise_project(network: &mut Network, project: usize, by: Packed) {
+    // A project with room costs what its supervisor does, so it is lifted with that one.
     if network.nodes[project].is_full() {
         lift(network, project, by);
     }
@@ -42,9 +44,10 @@ fn raise_supervisor(network: &mut Network, supervisor: usize, by: Packed) {
     }
 }
 
-/// Raises the potentials of settled nodes by what the best end is beyond them.
+/// Migrates the potentials of settled nodes by what the best end is beyond them.
 fn raise(network: &mut Network, frontier: &Frontier) {
     for node in &frontier.settled {
+        // The node that was settled last may be no nearer than the best end. Its potential stays.
         let by = frontier.best.wrapping_sub(frontier.marks[*node].label);
         if by > 0 && network.is_project(*node) {
             raise_project(network, *node, by);
@@ -64,6 +67,7 @@ fn take(network: &mut Network, node: usize) {
 fn give(network: &mut Network, project: usize, supervisor: usize) {
     let above = network.nodes[supervisor].potential;
     let node = &mut network.nodes[project];
+    // Asked before the student is counted off: until now it was full, and its price its own.
     if node.is_full() {
         node.potential = above;
     }
@@ -81,6 +85,7 @@ fn leave(network: &mut Network, student: usize) -> Option<usize> {
 /// Adds a student to a project.
 fn come(network: &mut Network, student: usize, project: usize) -> Result<(), AllocError> {
     network.students[student].project = Some(project);
+    // Where this runs out of memory a student is between two projects. The search ends with it, and nobody sees the network again.
     network.inside[project].push(student)?;
     Ok(())
 }
@@ -110,12 +115,14 @@ fn follow(network: &mut Network, frontier: &Frontier) -> Result<(), AllocError> 
         End::Start => None,
         End::Room(student, project) => {
             let supervisor = network.nodes[project].supervisor;
+            // The walk ends at a place that both have free, so both count a student more.
             take(network, supervisor);
             take(network, project);
             make(network, project, Arc::Student(student))?
         }
         End::Out(student) => leave(network, student),
     };
+    // A walk comes to no node twice. The count is what makes the loop end by proof, even with wrong marks.
     for _ in 0..network.nodes.items.len() {
         let Some(node) = before else {
             break;
@@ -132,10 +139,12 @@ pub(crate) fn admit(
     student: usize,
 ) -> Result<(), AllocError> {
     let gain = gain(network, student);
+    // No entry is worth more than it costs, so no walk gains: the student goes without.
     if gain == 0 {
         return Ok(());
     }
     frontier.find(network, student, gain)?;
+    // Before the walk is followed, since it goes by who is where, and which project is full, as the search saw it.
     raise(network, frontier);
     network.students[student].potential = gain.wrapping_sub(frontier.best);
     follow(network, frontier)

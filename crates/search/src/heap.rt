@@ -1,7 +1,7 @@
 //! The frontier of a search: the nodes that it has reached, with their labels, the least first.
 
-use crate::endless::Endless;
 use crate::labels::Packed;
+use crate::padded::Padded;
 use std::alloc::{AllocError, Global};
 
 /// How many levels a heap can have.
@@ -57,8 +57,8 @@ const BLANK: Mark = Mark {
 /// The nodes that a search has reached.
 #[derive(Drop)]
 pub(crate) struct Frontier {
-    pub marks: Endless<Mark>,
-    heap: Endless<usize>,
+    pub marks: Padded<Mark>,
+    heap: Padded<usize>,
     /// Nodes reached at the label that was settled last, so that none is nearer.
     level: Vec<usize>,
     /// The nodes that were taken from the frontier, in this order.
@@ -71,7 +71,7 @@ pub(crate) struct Frontier {
 }
 
 /// Makes these nodes not reached any more.
-fn forget(marks: &mut Endless<Mark>, nodes: &mut Vec<usize>) {
+fn forget(marks: &mut Padded<Mark>, nodes: &mut Vec<usize>) {
     for node in nodes.iter() {
         marks[*node].standing = Standing::Unseen;
     }
@@ -82,8 +82,8 @@ impl Frontier {
     /// Creates a frontier of `count` nodes, none of which is reached.
     pub(crate) fn start(alloc: Global, count: usize) -> Result<Frontier, AllocError> {
         Ok(Frontier {
-            marks: Endless::filled(alloc, count, BLANK)?,
-            heap: Endless::filled(alloc, 0, 0)?,
+            marks: Padded::filled(alloc, count, BLANK)?,
+            heap: Padded::filled(alloc, 0, 0)?,
             level: Vec::new(alloc),
             settled: Vec::new(alloc),
             last: 0,
@@ -94,6 +94,7 @@ impl Frontier {
 
     /// Begins anew: no node is reached any more, and to end at once costs this much.
     pub(crate) fn restart(&mut self, gain: Packed) {
+        // Only nodes that the last search reached: so a search costs what it reaches, however many nodes there are.
         forget(&mut self.marks, &mut self.heap.items);
         forget(&mut self.marks, &mut self.level);
         forget(&mut self.marks, &mut self.settled);
@@ -119,6 +120,7 @@ impl Frontier {
     /// Moves a node up from this position of the heap to where its label belongs.
     fn rise(&mut self, from: usize, node: usize, label: Packed) {
         let mut i = from;
+        // Never met, since a heap of 64 levels fits in no memory: it is promised that each loop ends, and nothing of the order.
         for _ in 0..DEPTH {
             if i == 0 {
                 break;
@@ -170,6 +172,7 @@ impl Frontier {
     pub(crate) fn reach(&mut self, node: usize, label: Packed, arc: Arc) -> Result<(), AllocError> {
         let mark = &mut self.marks[node];
         match mark.standing {
+            // No open node can be nearer, so this one needs no place in the heap, and its label is final.
             Standing::Unseen if label == self.last => {
                 mark.label = label;
                 mark.arc = arc;
@@ -188,6 +191,7 @@ impl Frontier {
                 mark.arc = arc;
                 self.rise(i, node, label);
             }
+            // Settled, or no nearer than before. Potentials keep arcs from being negative, so no later walk to a settled node is cheaper.
             _ => {}
         }
         Ok(())
@@ -200,17 +204,19 @@ impl Frontier {
         }
         let node = *self.heap.items.first()?;
         let last = self.heap.items.pop()?;
+        // With one node in the heap the first is the last, and nothing has to sink.
         if !self.heap.items.is_empty() {
             self.sink(last);
         }
         Some(node)
     }
 
-    /// Settles the next node, if its label is below that of the best end.
+    /// Settles the next node, and returns it if its label is below that of the best end.
     pub(crate) fn settle(&mut self) -> Result<Option<usize>, AllocError> {
         let Some(node) = self.pop() else {
             return Ok(None);
         };
+        // Before its label is looked at: it has left the heap, and `restart` has to find it.
         self.settled.push(node)?;
         self.last = self.marks[node].label;
         self.marks[node].standing = Standing::Settled;

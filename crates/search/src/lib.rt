@@ -12,10 +12,10 @@
 #![tactic(auto)]
 
 mod admit;
-mod endless;
 mod heap;
 mod labels;
 mod order;
+mod padded;
 mod state;
 mod walk;
 

@@ -3,7 +3,7 @@
 //! Who is admitted later cannot drive out an equal, so no order by code or time would be fair. The lot is a hash of all quotas
 //! and lists: nobody can know it before all lists are in, and whoever has the round can draw it again.
 
-use crate::endless::Endless;
+use crate::padded::Padded;
 use spa::Instance;
 use std::alloc::{AllocError, Global};
 
@@ -41,7 +41,7 @@ fn draw(state: u64) -> u64 {
 /// Returns the students in the order drawn: the shuffle of R. A. Fisher and F. Yates, from the last place down.
 pub(crate) fn drawn(alloc: Global, instance: &Instance) -> Result<Vec<usize>, AllocError> {
     let count = instance.student_count();
-    let mut order = Endless::filled(alloc, count, 0)?;
+    let mut order = Padded::filled(alloc, count, 0)?;
     for student in 0..count {
         order[student] = student;
     }
@@ -49,6 +49,7 @@ pub(crate) fn drawn(alloc: Global, instance: &Instance) -> Result<Vec<usize>, Al
     for after in 1..count {
         state = state.wrapping_add(0x9e37_79b9_7f4a_7c15);
         let last = count - after;
+        // The remainder favours low positions by less than one in 2^54, which no count of rounds can show.
         let chosen = (draw(state) % (last as u64 + 1)) as usize;
         let student = order[last];
         order[last] = order[chosen];

@@ -1,7 +1,7 @@
 //! The network: projects and supervisors with their potentials, and the students with the projects that they have.
 
-use crate::endless::Endless;
 use crate::labels::{Packed, row, worths};
+use crate::padded::Padded;
 use spa::{Aim, Instance, Matching, RANKS};
 use std::alloc::{AllocError, Global};
 use verdict::Prices;
@@ -40,15 +40,16 @@ pub(crate) struct Network<'a> {
     instance: &'a Instance,
     aim: Aim,
     pub worths: [Packed; RANKS],
-    pub nodes: Endless<Node>,
+    pub nodes: Padded<Node>,
     /// The students who have a project, and the projects of a supervisor.
-    pub inside: Endless<Vec<usize>>,
-    pub students: Endless<Student>,
+    pub inside: Padded<Vec<usize>>,
+    pub students: Padded<Student>,
 }
 
 /// Returns the node of a project or a supervisor that nobody has. If there are no places, they cost as much as any pair is worth.
 fn empty(quota: u32, supervisor: usize, places: u32, dearest: Packed) -> Node {
     Node {
+        // No worth is above that of rank 1, so nobody gains here.
         potential: if places == 0 { dearest } else { 0 },
         quota,
         taken: 0,
@@ -61,7 +62,7 @@ fn nodes_of(
     alloc: Global,
     instance: &Instance,
     dearest: Packed,
-) -> Result<Endless<Node>, AllocError> {
+) -> Result<Padded<Node>, AllocError> {
     let projects = instance.project_count();
     let mut nodes = Vec::new(alloc);
     for project in 0..projects {
@@ -73,7 +74,7 @@ fn nodes_of(
     for quota in instance.supervisors() {
         nodes.push(empty(*quota, nodes.len(), *quota, dearest))?;
     }
-    Ok(Endless {
+    Ok(Padded {
         items: nodes,
         spare: Node::default(),
     })
@@ -83,9 +84,9 @@ fn nodes_of(
 fn inside_of(
     alloc: Global,
     instance: &Instance,
-    nodes: &Endless<Node>,
-) -> Result<Endless<Vec<usize>>, AllocError> {
-    let mut inside = Endless {
+    nodes: &Padded<Node>,
+) -> Result<Padded<Vec<usize>>, AllocError> {
+    let mut inside = Padded {
         items: Vec::with_capacity(alloc, nodes.items.len())?,
         spare: Vec::new(alloc),
     };
@@ -120,7 +121,7 @@ impl<'a> Network<'a> {
             worths,
             nodes,
             inside,
-            students: Endless::filled(alloc, instance.student_count(), Student::default())?,
+            students: Padded::filled(alloc, instance.student_count(), Student::default())?,
         })
     }
 
@@ -128,6 +129,7 @@ impl<'a> Network<'a> {
     pub(crate) fn list(&self, student: usize) -> &[usize] {
         match self.instance.students().get(student) {
             Some(list) => list,
+            // No student is past the end. An empty list asks for no proof of it.
             None => &[],
         }
     }
@@ -156,6 +158,7 @@ impl<'a> Network<'a> {
 
     /// Returns what a node costs of itself.
     fn price(&self, node: &Node, above: Packed) -> Packed {
+        // Times a quota of 0 it costs nothing, and it covers every pair that lists the project.
         if node.quota == 0 {
             self.worths[0]
         } else {

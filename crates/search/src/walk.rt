@@ -11,11 +11,13 @@ impl Frontier {
     fn relax(&mut self, network: &Network, student: usize, at: Packed) -> Result<(), AllocError> {
         for (project, worth) in network.list(student).iter().zip(&network.worths) {
             let free = at.wrapping_sub(*worth);
+            // Worths fall from rank to rank, so no later entry does better.
             if free >= self.best {
                 break;
             }
             let node = &network.nodes[*project];
             let label = free.wrapping_add(node.potential);
+            // Both have room, so the walk can end here: no node stands for the sink.
             if network.has_room(node) {
                 self.offer(label, End::Room(student, *project));
             } else if label < self.best {
@@ -47,6 +49,7 @@ impl Frontier {
         for project in &network.inside[supervisor] {
             let node = &network.nodes[*project];
             let label = free.wrapping_add(node.potential);
+            // A project without students has none to give up, so no walk goes on from it.
             if node.taken > 0 && label < self.best {
                 self.reach(*project, label, Arc::Down(supervisor))?;
             }
@@ -63,6 +66,7 @@ impl Frontier {
     ) -> Result<(), AllocError> {
         self.restart(gain);
         self.relax(network, student, gain)?;
+        // Each iteration settles one node, and none twice, so there are no more than nodes.
         for _ in &network.nodes.items {
             let Some(node) = self.settle()? else {
                 break;

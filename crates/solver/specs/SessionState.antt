@@ -43,7 +43,7 @@ pub record IsAdmitted (old new : SessionState) (list : List ℕ) (relaxations : 
   pub bound : relaxations ≤ most_relaxations new.shape
 
 -- some best matching of the students admitted has the one at this position exactly where `placed` says so
-pub record TellsIfPlaced (s : SessionState) (student : ℕ) (placed : Bool) : Type 0 where
+pub record ReturnsIfPlaced (s : SessionState) (student : ℕ) (placed : Bool) : Type 0 where
   pub matching : List Pair
   pub best : IsBest s.aim s.shape matching
-  pub told : placed ≡ list_any (λ e. e.student == student) matching
+  pub returned : placed ≡ list_any (λ e. e.student == student) matching

@@ -8,7 +8,7 @@ ghost use Rattle.spa.specs.Shape.{IsSound};
 ghost use Rattle.spa.specs.Matching.{Pair, IsBest, profile};
 ghost use Rattle.spa.specs.Matched.{pairs, HasPlaces};
 ghost use Rattle.network.specs.Seen.{shape_of};
-ghost use Rattle.solver.specs.SessionState.{nobody, IsAdmitted, TellsIfPlaced};
+ghost use Rattle.solver.specs.SessionState.{nobody, IsAdmitted, ReturnsIfPlaced};
 ghost use Rattle.solver.specs.Inside.Solved.{IsOf};
 ghost use Rattle.solver.specs.Inside.Kept.{IsNetworkKept};
 
@@ -123,7 +123,7 @@ impl Session {
         requires known { All (λ p. p < length self.old.shape.projects) list.now }
         requires distinct { AllPairs (λ p q. p ≢ q) list.now }
         ensures admitted { IfOk result (λ a. IsAdmitted self.old self.new list.now a.relaxations) }
-        ensures placed { IfOk result (λ a. TellsIfPlaced self.new (length self.old.shape.students) a.placed) }
+        ensures placed { IfOk result (λ a. ReturnsIfPlaced self.new (length self.old.shape.students) a.placed) }
         ensures memory { OnErr result (self.new ≡ self.old) }
     {
         let admitted = admit_weighed(self.aim, &mut self.network, &mut self.entries, list)?;

@@ -6,8 +6,8 @@ use Rattle.sqlite_rules.proofs.ListLemmas.{has_either, has_left, has_right, has_
 use Rattle.sqlite.specs.Order.{Row as Values}
 use Rattle.sqlite.specs.Effect.{Database}
 use Rattle.sqlite.specs.State.{State as Seen, IsUnchanged}
-use Rattle.row_data.specs.declared.table.Table.{Table}
-use Rattle.row_data.specs.Rows.{Cells, RowOf, of_table}
+use Rattle.row_model.specs.declared.table.Table.{Table}
+use Rattle.row_model.specs.Rows.{Cells, RowOf, of_table}
 use Rattle.store.specs.Rows.{values}
 use Rattle.store.specs.Inside.Reading.{HoldsColumns, ReadsTable, ReadsSome, HoldsNoRow, ReadsAll, HoldsUnread}
 use Rattle.tables.proofs.Runs.{decide_table}

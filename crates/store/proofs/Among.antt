@@ -6,10 +6,10 @@ use Rattle.std.proofs.lemmas.Bool.{and_parts, or_parts, not-true}
 use Rattle.std.proofs.lemmas.List.{get_or_default}
 use Rattle.sqlite_rules.specs.Lists.{Has}
 use Rattle.sqlite_rules.proofs.ListLemmas.{has_at, some_from}
-use Rattle.row_data.specs.declared.table.Table.{Table}
-use Rattle.row_data.specs.declared.table.Table.TheVariants.{Choice, Edition, Placement, RoundAim}
-use Rattle.row_data.specs.Rows.{RowOf, of_table, same_table}
-use Rattle.row_data.proofs.Tables.{same_table_is, same_table_self}
+use Rattle.row_model.specs.declared.table.Table.{Table}
+use Rattle.row_model.specs.declared.table.Table.TheVariants.{Choice, Edition, Placement, RoundAim}
+use Rattle.row_model.specs.Rows.{RowOf, of_table, same_table}
+use Rattle.row_model.proofs.Tables.{same_table_is, same_table_self}
 use Rattle.tables.proofs.Runs.{decide_table}
 use Rattle.editions.specs.declared.Edition.{Edition as AnEdition}
 use Rattle.editions.specs.declared.Edition.TheVariants.{First, Second, Third}

@@ -5,27 +5,23 @@ use Rattle.sqlite.specs.Effect.{Database}
 use Rattle.sqlite.specs.State.{State as Seen, HasCleanDisk, Survives, IsUnchanged}
 use Rattle.tables.specs.declared.fault.TableFault.{TableFault}
 use Rattle.tables.specs.declared.fault.TableFault.TheVariants as fault
-use Rattle.row_data.specs.declared.table.Table.{Table}
-use Rattle.row_data.specs.declared.table.Table.TheVariants.{Edition}
+use Rattle.row_model.specs.declared.table.Table.{Table}
+use Rattle.row_model.specs.declared.table.Table.TheVariants.{Edition}
 use Rattle.std.proofs.lemmas.Bool.{cases_Bool}
 use Rattle.sqlite_rules.specs.Lists.{Has}
-use Rattle.tables.specs.Causes.{IsStopped, IsUnread, LacksMemory}
-use Rattle.tables.proofs.Starved.{lacks, lacks_put}
-use Rattle.row_data.specs.declared.row.Change.{Change}
-use Rattle.row_data.specs.declared.row.Change.TheVariants.{Add, Put, Remove}
-use Rattle.row_data.specs.Rows.{RowOf}
+use Rattle.tables.specs.Causes.{IsStopped, IsUnread}
+use Rattle.row_model.specs.Rows.{RowOf}
 use Rattle.store.specs.Inside.Reading.{ReadsSome}
 use Rattle.editions.specs.declared.Edition.{Edition as AnEdition}
 use Rattle.store.specs.Editions.{rolls_of}
 use Rattle.store.specs.Reading.{AreAllListed}
-use Rattle.store.specs.Rows.{removal, values}
 use Rattle.store.proofs.ListedTables.{is_next}
 use Rattle.tables.specs.Table.{sql_of}
 use Rattle.tables.proofs.Causes.{stopped_after, stopped_as}
 use Rattle.store.specs.declared.fault.StoreFault.TheVariants.{Storage}
 use Rattle.store.specs.Inside.Faults.{of_table}
 use Rattle.store.specs.Causes.{IsHinderedAfter, IsHinderedReading, Ran}
-use Rattle.store.specs.Inside.Causes.{FailsToChange, IsHinderedReadingIn}
+use Rattle.store.specs.Inside.Causes.{IsHinderedReadingIn}
 
 -- a fault of the storage is one of a statement
 pub of_storage : (f : TableFault) → of_table f ≡ Storage → f ≡ fault.Storage
@@ -90,9 +86,3 @@ rows_unread e a b c listed same survives clean up =
       among = inr h.among;
       hindered = subst (IsUnread (sql_of h.table).select a.step_limit) same.0.now_is h.hindered;
     })
-
--- a change that runs out of memory
-pub lacks_change : (change : Change) (old new : Seen) → FailsToChange change fault.Memory old new → LacksMemory old new
-lacks_change (Put row) old new it = lacks_put row.table (values row.cells) old new it
-lacks_change (Add row) old new it = lacks (sql_of row.table).insert (values row.cells) old new it
-lacks_change (Remove part) old new it = lacks (removal part.group) (values part.cells) old new it

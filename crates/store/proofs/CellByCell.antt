@@ -7,12 +7,12 @@ use Rattle.std.proofs.lemmas.List.{take_more, map-append}
 use Rattle.std.proofs.lemmas.List.Elements.{filter-append}
 use Rattle.sqlite.specs.declared.types.Value.TheVariants.{Null}
 use Rattle.sqlite.specs.Order.{Row as Values, column}
-use Rattle.row_data.specs.declared.cell.Cell.{Cell}
-use Rattle.row_data.specs.declared.cell.Kind.{Kind}
-use Rattle.row_data.specs.declared.table.Table.{Table}
-use Rattle.row_data.specs.declared.table.Table.TheVariants.{Edition}
-use Rattle.row_data.specs.Rows.{Cells, RowOf, are_of, is_of, kinds_of, of_table, same_table}
-use Rattle.row_data.proofs.Tables.{same_table_is, same_table_self}
+use Rattle.row_model.specs.declared.cell.Cell.{Cell}
+use Rattle.row_model.specs.declared.cell.Kind.{Kind}
+use Rattle.row_model.specs.declared.table.Table.{Table}
+use Rattle.row_model.specs.declared.table.Table.TheVariants.{Edition}
+use Rattle.row_model.specs.Rows.{Cells, RowOf, are_of, is_of, kinds_of, of_table, same_table}
+use Rattle.row_model.proofs.Tables.{same_table_is, same_table_self}
 use Rattle.store.specs.Rows.{value_of, values}
 use Rattle.store.specs.Inside.Reading.{AreReadRows, IsNoRow, IsTyped, ReadsCells}
 

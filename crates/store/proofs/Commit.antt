@@ -4,8 +4,7 @@ use Rattle.sqlite.specs.Effect.{Database, IsDatabase}
 use Rattle.sqlite.specs.State.{State as Seen, HasCleanDisk, IsUnchanged, KeepsCounts, Shows, Survives}
 use Rattle.sqlite.specs.Tree.{Trees}
 use Rattle.sqlite.proofs.StateLemmas.{survives_then}
-use Rattle.tables.specs.Steps.{HasSaved, HasStepped, IsLeft}
-use Rattle.tables.specs.Inside.Steps.{Stays}
+use Rattle.tables.specs.Steps.{HasSaved, HasStepped, MayRecoverTo}
 
 -- what a commit that went through did
 abbrev pub IsCommitted : Seen → Seen → Type 0
@@ -19,10 +18,6 @@ pub record HasMade (P : Database → Database → Type 0) (old new : Seen) : Typ
 -- one statement
 pub made_one : (P : Database → Database → Type 0) (a b : Seen) → HasStepped P a b → HasMade P a b
 made_one P a b it = record { opened = λ up. it.shown.was_open; step = it.step }
-
--- a run of them
-pub made_run : (P : Database → Database → Type 0) (a b : Seen) → Stays P a b → HasMade P a b
-made_run P a b it = record { opened = subst IsTrue it.shut; step = it.step }
 
 -- one statement went through, so that the connection was open, and left a database
 pub sound_one : (P : Database → Database → Type 0) (a b : Seen) → HasStepped P a b → IsTrue a.is_open × IsDatabase b.now
@@ -54,9 +49,9 @@ module _ (first begun : Seen) (begins : begun ≡ record first { in_transaction 
 
   -- what a crash leaves of it, whether it was committed or not
   pub left_by : (P : Database → Database → Type 0) → (HasCleanDisk b → HasMade P begun b) → (HasCleanDisk b → IsTrue begun.is_open × IsDatabase b.now) → Survives begun b (λ _. ⊥) → Survives b c (λ db. db ≡ b.now.trees)
-      → Survives first c (IsLeft P first)
+      → Survives first c (MayRecoverTo P first)
   left_by P made sound one two =
-      survives_then first b c (λ _. ⊥) (λ db. db ≡ b.now.trees) (IsLeft P first) (λ _ db none. absurd none) (λ clean db is.
+      survives_then first b c (λ _. ⊥) (λ db. db ≡ b.now.trees) (MayRecoverTo P first) (λ _ db none. absurd none) (λ clean db is.
       let early : HasCleanDisk b = omega (arith, two.clean) in
       record {
         was_open = subst (λ (s : Seen). IsTrue s.is_open) begins (sound early).0;
@@ -67,31 +62,13 @@ module _ (first begun : Seen) (begins : begun ≡ record first { in_transaction 
       }) (from_first (λ _. ⊥) one) two
 
   -- what a crash leaves of it where it was dropped
-  pub dropped_by : (P : Database → Database → Type 0) → Survives begun b (λ _. ⊥) → Survives b c (λ _. ⊥) → Survives first c (IsLeft P first)
-  dropped_by P one two = survives_then first b c (λ _. ⊥) (λ _. ⊥) (IsLeft P first) (λ _ db none. absurd none) (λ _ db none. absurd none) (from_first (λ _. ⊥) one) two
-
--- a run of statements left a database where the connection was open and showed one
-pub sound_run : (P : Database → Database → Type 0) (first begun b : Seen) → begun ≡ record first { in_transaction = true } → Survives begun b (λ _. ⊥) → (HasCleanDisk first → IsTrue first.is_open) → (HasCleanDisk first → IsDatabase first.now)
-    → (HasCleanDisk b → Stays P begun b) → HasCleanDisk b → IsTrue begun.is_open × IsDatabase b.now
-sound_run P first begun b begins one opened sound made clean =
-    let early : HasCleanDisk first = let was = (from_first first begun begins b b (λ _. ⊥) one).clean in omega (arith, was, clean) in (
-      subst (λ (s : Seen). IsTrue s.is_open) (sym begins) (opened early),
-      (made clean).sound (subst (λ (s : Seen). IsDatabase s.now) (sym begins) (sound early)),
-    )
+  pub dropped_by : (P : Database → Database → Type 0) → Survives begun b (λ _. ⊥) → Survives b c (λ _. ⊥) → Survives first c (MayRecoverTo P first)
+  dropped_by P one two = survives_then first b c (λ _. ⊥) (λ _. ⊥) (MayRecoverTo P first) (λ _ db none. absurd none) (λ _ db none. absurd none) (from_first (λ _. ⊥) one) two
 
 -- after a call that changed nothing
 module _ (a b c : Seen) (P : Database → Database → Type 0) (one : Survives a b (λ _. ⊥)) (same : HasCleanDisk b → IsUnchanged a b) where
-  pub saved_after : Survives b c (IsLeft P b) → (HasCleanDisk c → HasSaved P b c) → HasCleanDisk c → HasSaved P a c
-  saved_after two saved clean =
-      let early : HasCleanDisk b = omega (arith, two.clean, clean) in
-      let it = saved clean in
-      record {
-        shown = record { was_open = (same early).0.was_open; is_open = it.shown.is_open; now_is = it.shown.now_is; committed_is = it.shown.committed_is; mode = it.shown.mode };
-        step = subst (λ (db : Database). P db c.now) (same early).0.now_is it.step;
-      }
-
-  pub left_after : Survives b c (IsLeft P b) → Survives a c (IsLeft P a)
-  left_after two = survives_then a b c (λ _. ⊥) (IsLeft P b) (IsLeft P a) (λ _ db none. absurd none) (λ clean trees left.
+  pub left_after : Survives b c (MayRecoverTo P b) → Survives a c (MayRecoverTo P a)
+  left_after two = survives_then a b c (λ _. ⊥) (MayRecoverTo P b) (MayRecoverTo P a) (λ _ db none. absurd none) (λ clean trees left.
       let early : HasCleanDisk b = omega (arith, two.clean) in
       record {
         was_open = (same early).0.was_open;

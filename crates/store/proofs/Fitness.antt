@@ -28,10 +28,10 @@ use Rattle.rolls.specs.State.{State, supervisor_of, project_of, student_of, roun
 use Rattle.rolls.proofs.Found.{found_key, holds_of_found}
 use Rattle.rolls.proofs.LastRound.{round_within}
 use Rattle.rolls.proofs.Shaped.{numbered_rise}
-use Rattle.row_data.specs.declared.table.Table.{Table}
-use Rattle.row_data.specs.declared.table.Table.TheVariants.{Edition, Supervisor, Project, Student, Round, Import, RoundAim, Choice, Placement}
-use Rattle.row_data.specs.Rows.{Cells}
-use Rattle.row_lists.proofs.Found.{StandsIn, each_found}
+use Rattle.row_model.specs.declared.table.Table.{Table}
+use Rattle.row_model.specs.declared.table.Table.TheVariants.{Edition, Supervisor, Project, Student, Round, Import, RoundAim, Choice, Placement}
+use Rattle.row_model.specs.Rows.{Cells}
+use Rattle.change_laws.proofs.Found.{StandsIn, each_found}
 use Rattle.editions.specs.declared.Edition.{Edition as AnEdition}
 use Rattle.editions.specs.declared.Edition.TheVariants.{First, Second, Third}
 use Rattle.editions.specs.Editions.{renamed, rows_in_edition}

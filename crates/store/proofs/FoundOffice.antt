@@ -2,19 +2,19 @@
 use Rattle.std.proofs.Common.{◌≡◌, Bool, true, false, cond, List, [], ◌∷◌, ◌++◌, map, filter, inr, refl}
 use Rattle.sqlite.specs.Schema.{Schema}
 use Rattle.sqlite.specs.State.{State as Seen}
-use Rattle.row_data.specs.declared.row.Change.{Change}
-use Rattle.row_data.specs.declared.row.Change.TheVariants.{Add}
-use Rattle.row_data.specs.Rows.{RowOf, of_table}
+use Rattle.row_model.specs.declared.row.Change.{Change}
+use Rattle.row_model.specs.declared.row.Change.TheVariants.{Add}
+use Rattle.row_model.specs.Rows.{RowOf, of_table}
 use Rattle.rolls.specs.Fit.{IsFit}
 use Rattle.rolls.specs.Rows.{AreRowsOf}
 use Rattle.rolls.specs.State.{State}
 use Rattle.editions.specs.declared.Edition.{Edition as AnEdition}
 use Rattle.editions.specs.declared.Edition.TheVariants.{First, Second, Third}
-use Rattle.editions.specs.Editions.{Renews, Upgrades, aims_of, is_old, olds, renaming_changes, renewed, rows_in_edition, renamed_row, removal_of, upgrade}
-use Rattle.store.specs.Editions.{number_of, raised, rolls_of}
+use Rattle.editions.specs.Editions.{RowsMigrate, ChangesMigrate, aims_of, is_old, olds, renaming_changes, migrated_rows, rows_in_edition, renamed_row, removal_of, migrating_changes}
+use Rattle.store.specs.Editions.{number_of, migrated, rolls_of}
 use Rattle.store.specs.Rows.{IsAmong}
 use Rattle.store.specs.Saving.{AllNeed, AreLeftAmong, IsLeftAlone}
-use Rattle.store.specs.Inside.Raising.{AskRaised}
+use Rattle.store.specs.Inside.Migrating.{AskMigrated}
 use Rattle.store.specs.Inside.Reading.{FindsOffice, HoldsRows}
 use Rattle.store.proofs.Among.{tested_among}
 use Rattle.store.proofs.Standing.{hold_same}
@@ -22,11 +22,11 @@ use Rattle.store.proofs.Standing.{hold_same}
 -- ---- what the changes of a migration ask of the schema
 
 -- a row of earlier editions is of a table in which rows are taken out
-taken_asks : (schema : Schema) → AreLeftAmong raised schema → (r : RowOf) → is_old r ≡ true → IsLeftAlone r.table schema
+taken_asks : (schema : Schema) → AreLeftAmong migrated schema → (r : RowOf) → is_old r ≡ true → IsLeftAlone r.table schema
 unfolding IsAmong
 taken_asks schema left r is = left r.table (inr (tested_among olds r.table is))
 
-module _ (schema : Schema) (left : AreLeftAmong raised schema) where
+module _ (schema : Schema) (left : AreLeftAmong migrated schema) where
   takes_by : (r : RowOf) (rows : List RowOf) → AllNeed (map removal_of (filter is_old rows)) schema → (b : Bool) → is_old r ≡ b → AllNeed (map removal_of (cond b (r ∷ filter is_old rows) (filter is_old rows))) schema
   takes_by r rows rest true is = ((λ _. taken_asks schema left r is), rest)
   takes_by r rows rest false is = rest
@@ -46,24 +46,24 @@ module _ (schema : Schema) (left : AreLeftAmong raised schema) where
   moves_ask : (rows more : List RowOf) → AllNeed (renaming_changes rows more) schema
   moves_ask rows more = both_ask (map removal_of (filter is_old rows)) (map Add (map renamed_row (filter is_old rows) ++ more)) (takes_ask rows) (adds_ask (map renamed_row (filter is_old rows) ++ more))
 
-upgrade_asks : (e : AnEdition) (rows : List RowOf) → AskRaised (upgrade e rows)
-upgrade_asks First rows schema left = moves_ask schema left rows (aims_of rows)
-upgrade_asks Second rows schema left = moves_ask schema left rows []
-upgrade_asks Third rows schema left = tt
+migration_asks : (e : AnEdition) (rows : List RowOf) → AskMigrated (migrating_changes e rows)
+migration_asks First rows schema left = moves_ask schema left rows (aims_of rows)
+migration_asks Second rows schema left = moves_ask schema left rows []
+migration_asks Third rows schema left = tt
 
 -- the office of the rows that were read, and what migrates them
-pub found_in : Renews → Upgrades → (e : AnEdition) (rows : List RowOf) (office : State) (old new : Seen) → HoldsRows e rows old new → IsFit office → AreRowsOf (renewed e rows) office
-    → FindsOffice e office (upgrade e rows) old new
-found_in renews upgrades e rows office old new h fit of =
-    let in_it = (renews e rows office h.none_later fit).1 of in
+pub found_in : RowsMigrate → ChangesMigrate → (e : AnEdition) (rows : List RowOf) (office : State) (old new : Seen) → HoldsRows e rows old new → IsFit office → AreRowsOf (migrated_rows e rows) office
+    → FindsOffice e office (migrating_changes e rows) old new
+found_in rows_migrate changes_migrate e rows office old new h fit of =
+    let in_it = (rows_migrate e rows office h.none_later fit).1 of in
     record {
       same = h.same;
       holds = hold_same (rolls_of e) (number_of e) old.now (of_table rows) (rows_in_edition e office) in_it.same h.holds;
       allowed = in_it.allowed;
       fit = fit;
-      asks = upgrade_asks e rows;
-      turned = (upgrades e rows office fit in_it).rows;
+      asks = migration_asks e rows;
+      turned = (changes_migrate e rows office fit in_it).rows;
       rows = rows;
       are = in_it;
-      raise = refl;
+      migrate = refl;
     }

@@ -1,21 +1,18 @@
 -- What one statement makes of the tables: of the rows of its table what the change makes of them, and of the others nothing.
-use Rattle.std.proofs.Common.{◌≡◌, ◌≢◌, Bool, false, not, List, [], ◌∷◌, filter, length, map, drop, refl, sym, ap, subst, ◌∙◌, true≢false}
-use Rattle.std.specs.Prelude.{◌||◌, eqb}
-use Rattle.std.specs.List.{list_any}
-use Rattle.std.proofs.lemmas.Bool.{not-true}
+use Rattle.std.proofs.Common.{◌≡◌, ◌≢◌, Bool, true, false, not, cond, List, [], ◌∷◌, filter, map, drop, refl, sym, ap, subst, ◌∙◌, true≢false}
 use Rattle.std.proofs.lemmas.List.{drop-map}
-use Rattle.sqlite_keyed.proofs.ListLemmas.{filter-map, filter_same, none_counted}
+use Rattle.sqlite_keyed.proofs.ListLemmas.{filter-map, filter_same}
 use Rattle.sqlite.specs.Effect.{Database}
 use Rattle.sqlite.specs.Order.{Row as Values}
 use Rattle.sqlite_rules.proofs.ListLemmas.{all_has}
-use Rattle.row_data.specs.declared.table.Table.{Table}
-use Rattle.row_data.specs.declared.table.Table.TheVariants.{Edition}
-use Rattle.row_data.specs.declared.row.Change.{Change}
-use Rattle.row_data.specs.declared.row.Change.TheVariants.{Add, Put, Remove}
-use Rattle.row_data.specs.Rows.{AllRows, Cells, IsPart, IsRow, PartOf, RowOf, begins, key_in, same_table, shared_by}
-use Rattle.row_data.specs.Changes.{after_change, changed, is_in_part, makes, table_of}
-use Rattle.row_data.proofs.Tables.{same_table_self}
-use Rattle.row_lists.proofs.Changes.{by_table, change_elsewhere, change_here}
+use Rattle.row_model.specs.declared.table.Table.{Table}
+use Rattle.row_model.specs.declared.table.Table.TheVariants.{Edition}
+use Rattle.row_model.specs.declared.row.Change.{Change}
+use Rattle.row_model.specs.declared.row.Change.TheVariants.{Add, Put, Remove}
+use Rattle.row_model.specs.Rows.{AllRows, Cells, IsPart, IsRow, PartOf, RowOf, begins, key_in, same_table, shared_by}
+use Rattle.row_model.specs.Changes.{after_change, changed, is_in_part, makes, table_of}
+use Rattle.row_model.proofs.Tables.{same_table_self}
+use Rattle.change_laws.proofs.Changes.{by_table, change_elsewhere, change_here}
 use Rattle.tables.specs.Table as sql
 use Rattle.tables.specs.Table.{table_at}
 use Rattle.tables.specs.Keyed.{Stands}
@@ -27,7 +24,7 @@ use Rattle.store.specs.Editions.{latest, number_of}
 use Rattle.store.specs.Rows.{IsRollTable, values}
 use Rattle.store.specs.Saving.{Spares}
 use Rattle.store.specs.Tables.{TablesHold, numbered}
-use Rattle.store.specs.Inside.Saving.{AppliesOne, Leaves, entering}
+use Rattle.store.specs.Inside.Saving.{AppliesOne, Leaves, entry}
 use Rattle.store.proofs.Begins.{begins_same}
 use Rattle.store.proofs.SqlKinds.{key_so, part_in_rolls, row_in_rolls}
 
@@ -61,12 +58,13 @@ module _ (p : Cells → Bool) (found : Values → Bool) (same : (row : Cells) �
   left_so : (rows : List Cells) → filter (λ v. not (found v)) (map values rows) ≡ map values (filter (λ r. not (p r)) rows)
   left_so rows = filter-map (λ v. not (found v)) values rows ∙ ap (map values) (filter_same _ _ (λ row. ap not (same row)) rows)
 
-  any_so : (rows : List Cells) → list_any p rows ≡ list_any found (map values rows)
-  any_so [] = refl
-  any_so (r ∷ rows) = λ i. sym (same r) i || any_so rows i
-
-  none_so : (rows : List Cells) → filter found (map values rows) ≡ [] → list_any p rows ≡ false
-  none_so rows none = any_so rows ∙ not-true _ (sym (none_counted found (map values rows)) ∙ ap (λ vs. eqb (length vs) 0) none)
+  put_so : (cells : Cells) (rows : List Cells) → map (λ v. cond (found v) (values cells) v) (map values rows) ≡ map values (map (λ row. cond (p row) cells row) rows)
+  put_so cells [] = refl
+  put_so cells (row ∷ rows) = λ i. (ap (λ b. cond b (values cells) (values row)) (same row) ∙ by (p row)) i ∷ put_so cells rows i
+    where
+      by : (b : Bool) → cond b (values cells) (values row) ≡ values (cond b cells row)
+      by true = refl
+      by false = refl
 
 -- a row's key
 key_found : (r : RowOf) (row : Cells) → begins_with (sql.key_in r.table (values r.cells)) (values row) ≡ begins (key_in r.table r.cells) row
@@ -77,18 +75,18 @@ part_found : (p : PartOf) (row : Cells) → goes_on (let s = shared_by p.group i
 part_found p row = ap (begins_with (values p.cells)) (drop-map _ (let s = shared_by p.group in s.1) row) ∙ begins_same p.cells (drop (let s = shared_by p.group in s.1) row)
 
 -- a row that was put in its table, or added to it
-pub hold_enter : (way : Entering) (r : RowOf) (old new : Database) → IsRow r → Enters way (table_at r.table) (sql.key_in r.table (values r.cells)) (values r.cells) old new → AppliesOne (entering way r) old new
+pub hold_enter : (way : Entering) (r : RowOf) (old new : Database) → IsRow r → Enters way (table_at r.table) (sql.key_in r.table (values r.cells)) (values r.cells) old new → AppliesOne (entry way r) old new
 unfolding AppliesOne Puts
 hold_enter InPlace r old new is puts need rows t =
     let among = row_in_rolls r is in
     let place = t.places r.table in
     let done = puts place (map values (rows r.table)) (need among place (t.rolls r.table among).listed) (t.rolls r.table among) in
-    let made = ap (λ more. values r.cells ∷ more) (left_so _ _ (key_found r) (rows r.table)) in
-    (held (Put r) old new rows t among done.1 (subst (λ held. Stands (table_at r.table) place held new) made done.0), spared (Put r) old new rows t among done.1, tt)
+    let made = put_so _ _ (key_found r) r.cells (rows r.table) in
+    (held (Put r) old new rows t among done.1 (subst (λ held. Stands (table_at r.table) place held new) made done.0), spared (Put r) old new rows t among done.1)
 hold_enter New r old new is adds need rows t =
     let among = row_in_rolls r is in
     let done = adds (t.places r.table) (map values (rows r.table)) (t.rolls r.table among) in
-    (held (Add r) old new rows t among done.1 done.0, spared (Add r) old new rows t among done.1, none_so _ _ (key_found r) (rows r.table) done.2)
+    (held (Add r) old new rows t among done.1 done.0, spared (Add r) old new rows t among done.1)
 
 -- a part that was taken out
 pub hold_leave : (p : PartOf) (old new : Database) → IsPart p → Leaves p.group (values p.cells) old new → AppliesOne (Remove p) old new
@@ -98,4 +96,4 @@ hold_leave p old new is removes need rows t =
     let among = part_in_rolls p is in
     let place = t.places q in
     let done = removes place (map values (rows q)) (need among place (t.rolls q among).listed) (t.rolls q among) in
-    (held (Remove p) old new rows t among done.1 (subst (λ held. Stands (table_at q) place held new) (left_so _ _ (part_found p) (rows q)) done.0), spared (Remove p) old new rows t among done.1, tt)
+    (held (Remove p) old new rows t among done.1 (subst (λ held. Stands (table_at q) place held new) (left_so _ _ (part_found p) (rows q)) done.0), spared (Remove p) old new rows t among done.1)

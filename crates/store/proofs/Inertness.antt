@@ -1,7 +1,7 @@
 -- A table that is listed at a tree on which nothing acts.
 use Rattle.std.proofs.Common.{◌≡◌, ◌↔◌, ℕ, Bool, true, false, subst}
 use Rattle.sqlite.specs.Schema.{Schema}
-use Rattle.row_data.specs.declared.table.Table.{Table}
+use Rattle.row_model.specs.declared.table.Table.{Table}
 use Rattle.tables.specs.Table.{table_at}
 use Rattle.tables.specs.Inert.{IsActedOn}
 use Rattle.tables.specs.Layout.{IsListed, IsUnlisted}

@@ -6,7 +6,7 @@ pub mod Standing
 mod CellByCell
 mod Gathered
 mod Held
-mod ChangesInTurn
+mod ChangesInOrder
 mod NewTables
 mod Inertness
 mod ListedTables
@@ -14,7 +14,7 @@ mod Commit
 mod AllRows
 mod Fitness
 mod ReadRows
-mod Raised
+mod Migrated
 mod FoundOffice
 mod SameTrees
 mod Opening

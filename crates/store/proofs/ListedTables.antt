@@ -6,8 +6,8 @@ use Rattle.sqlite.specs.Order.{Row as Values}
 use Rattle.sqlite.specs.Schema.{Schema}
 use Rattle.sqlite.specs.State.{State as Seen}
 use Rattle.sqlite_rules.specs.Lists.{Has}
-use Rattle.row_data.specs.declared.table.Table.{Table}
-use Rattle.row_data.specs.declared.table.Table.TheVariants.{Edition}
+use Rattle.row_model.specs.declared.table.Table.{Table}
+use Rattle.row_model.specs.declared.table.Table.TheVariants.{Edition}
 use Rattle.tables.specs.Table.{Place, Lists, rules_of, table_at}
 use Rattle.tables.specs.Layout.{IsListed, IsUnlisted}
 use Rattle.tables.specs.Steps.{Shows}

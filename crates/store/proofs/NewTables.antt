@@ -11,12 +11,12 @@ use Rattle.sqlite_rules.specs.Lists.{Has}
 use Rattle.sqlite_rules.proofs.ListLemmas.{all_has, has_either, has_got}
 use Rattle.rolls.specs.Rows.{rows_in}
 use Rattle.rolls.specs.State.{State, empty}
-use Rattle.row_data.specs.declared.table.Table.{Table}
-use Rattle.row_data.specs.declared.table.Table.TheVariants.{Edition, Supervisor}
-use Rattle.tables.specs.Table.{Place, Lists, rules_of, key_in, table_at}
+use Rattle.row_model.specs.declared.table.Table.{Table}
+use Rattle.row_model.specs.declared.table.Table.TheVariants.{Edition, Supervisor}
+use Rattle.tables.specs.Table.{Place, Lists, rules_of, table_at}
 use Rattle.tables.specs.Keyed.{Stands}
 use Rattle.tables.specs.Writes.{Creates, Adds}
-use Rattle.tables.specs.Steps.{HasStepped, IsLeft}
+use Rattle.tables.specs.Steps.{HasStepped, MayRecoverTo}
 use Rattle.tables.specs.Inside.Steps.{Stays}
 use Rattle.tables.proofs.Runs.{listed_once, stands_apart, stands_beside, stays_none, stays_then, stays_stepped, decide_table}
 use Rattle.store.specs.Editions.{latest, number_of}
@@ -96,7 +96,7 @@ pub made_all : (i : ℕ) (all : List Table) (a b : Seen) → length all ≤ i �
 made_all i all a b end = subst (λ rs. Stays (MakesTables rs) a b) (take_all i all end)
 
 -- the tables, once that of the edition has its row
-empty_stands : (row : List Value) → row ∷ [] ≡ numbered (number_of latest) → (a b c : Database) → MakesTables stored_tables a b → Adds (table_at Edition) (key_in Edition row) row b c → StandsFor c empty
+empty_stands : (row : List Value) → row ∷ [] ≡ numbered (number_of latest) → (a b c : Database) → MakesTables stored_tables a b → Adds (table_at Edition) row b c → StandsFor c empty
 empty_stands row is a b c m n =
     let first : Has stored_tables Edition = inl refl in
     let done = n (m.places Edition) [] (m.stand Edition first) in
@@ -113,7 +113,7 @@ empty_stands row is a b c m n =
     }
 
 -- and are as they are made here
-ruled_so : (row : List Value) (a b c : Database) → MakesTables stored_tables a b → Adds (table_at Edition) (key_in Edition row) row b c → AreRuled c.schema
+ruled_so : (row : List Value) (a b c : Database) → MakesTables stored_tables a b → Adds (table_at Edition) row b c → AreRuled c.schema
 unfolding AreRuledAmong
 ruled_so row a b c m n table among place listed =
     let first : Has stored_tables Edition = inl refl in
@@ -124,7 +124,7 @@ ruled_so row a b c m n table among place listed =
     same ∙ (λ i. table_at table (record { tree = tree i; rules = m.ruled table among i }))
 
 -- each other table stays
-others_stay : (row : List Value) (a b c : Database) → MakesTables stored_tables a b → Adds (table_at Edition) (key_in Edition row) row b c → LeavesTables a c
+others_stay : (row : List Value) (a b c : Database) → MakesTables stored_tables a b → Adds (table_at Edition) row b c → LeavesTables a c
 unfolding LeavesTables
 others_stay row a b c m n t listed other =
     let first : Has stored_tables Edition = inl refl in
@@ -135,9 +135,9 @@ others_stay row a b c m n t listed other =
     )
 
 -- the tables were made one after the other, and then the edition was written
-pub founded : (row : List Value) → row ∷ [] ≡ numbered (number_of latest) → (a b c : Seen) → Stays (MakesTables stored_tables) a b → HasStepped (Adds (table_at Edition) (key_in Edition row) row) b c → HasStepped Empties a c
+pub created : (row : List Value) → row ∷ [] ≡ numbered (number_of latest) → (a b c : Seen) → Stays (MakesTables stored_tables) a b → HasStepped (Adds (table_at Edition) row) b c → HasStepped Empties a c
 unfolding Empties
-founded row is a b c m n = stays_stepped (MakesTables stored_tables) (Adds (table_at Edition) (key_in Edition row) row) Empties a b c (λ p q. (empty_stands row is a.now b.now c.now p q, ruled_so row a.now b.now c.now p q, others_stay row a.now b.now c.now p q)) m n
+created row is a b c m n = stays_stepped (MakesTables stored_tables) (Adds (table_at Edition) row) Empties a b c (λ p q. (empty_stands row is a.now b.now c.now p q, ruled_so row a.now b.now c.now p q, others_stay row a.now b.now c.now p q)) m n
 
 -- the tables were made where there were none
 pub opens_new : (old new : Database) (office : State) → HasNone old.schema → office ≡ empty → Empties old new → Opens old new office
@@ -145,7 +145,7 @@ unfolding Empties
 opens_new old new office none is made = inl (none, is, made.0, made.1)
 
 -- what a crash leaves of the making
-pub founds_left : (old : Seen) (trees : Trees) → HasNone old.now.schema → IsLeft Empties old trees → IsLeft Brings old trees
+pub founds_left : (old : Seen) (trees : Trees) → HasNone old.now.schema → MayRecoverTo Empties old trees → MayRecoverTo Brings old trees
 unfolding Empties
 founds_left old trees none h = record { was_open = h.was_open; db = h.db; sound = h.sound; step = inl (record { none = none; stands = h.step.0; ruled = h.step.1 }); same = h.same }
 

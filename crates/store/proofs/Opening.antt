@@ -7,24 +7,24 @@ use Rattle.sqlite.specs.Effect.{Database}
 use Rattle.sqlite.specs.Tree.{Trees}
 use Rattle.sqlite.specs.Schema.{Schema}
 use Rattle.sqlite.proofs.StateLemmas.{survives_then}
-use Rattle.row_data.specs.declared.row.Change.{Change}
+use Rattle.row_model.specs.declared.row.Change.{Change}
 use Rattle.rolls.specs.State.{State}
 use Rattle.editions.specs.declared.Edition.{Edition as AnEdition}
 use Rattle.editions.specs.declared.Edition.TheVariants.{First, Second, Third}
 use Rattle.editions.specs.Editions.{rows_in_edition}
-use Rattle.tables.specs.Steps.{HasSaved, IsKept, IsLeft}
+use Rattle.tables.specs.Steps.{HasSaved, IsKept, MayRecoverTo}
 use Rattle.tables.specs.Causes.{IsStopped}
 use Rattle.tables.specs.Table.{Lists}
 use Rattle.tables.proofs.Causes.{stopped_after}
-use Rattle.store.specs.Causes.{IsHinderedOpening, IsHinderedToRaise}
+use Rattle.store.specs.Causes.{IsHinderedOpening, IsHinderedToMigrate}
 use Rattle.store.specs.Editions.{IsEarlier, beyond, latest, number_of, rolls_of}
 use Rattle.store.specs.Inside.Editions.{IsEditionOf}
 use Rattle.store.specs.Reading.{IsDamaged, IsUnfitIn}
 use Rattle.store.specs.declared.fault.StoreFault.{StoreFault}
 use Rattle.store.specs.declared.fault.StoreFault.TheVariants.{Damaged, Storage}
 use Rattle.store.specs.Opening.{IsLeftUnopened}
-use Rattle.store.specs.Tables.{Brings, HasNone, HasNoneOf, HoldIn, LeavesTables, Opens, Raises, StandsIn}
-use Rattle.store.specs.Inside.Raising.{Rises}
+use Rattle.store.specs.Tables.{Brings, HasNone, HasNoneOf, HoldIn, LeavesTables, Opens, Migrates, StandsIn}
+use Rattle.store.specs.Inside.Migrating.{Rises}
 use Rattle.store.specs.Inside.Reading.{FindsOffice}
 use Rattle.store.proofs.Standing.{hold_same}
 use Rattle.store.proofs.SameTrees.{not_beyond, one_or_apart}
@@ -49,9 +49,9 @@ opens_found e office changes old new is found = inr (inl (found.same.0.now_is, s
 
 module _ (e : AnEdition) (office : State) (changes : List Change) (old mid : Seen) (earlier : IsEarlier e) (alone : HasNoneOf (beyond e) old.now.schema) (found : FindsOffice e office changes old mid) where
   -- tables of an earlier edition were read and migrated
-  raised : (db : Database) → Rises e changes mid.now db → Raises old.now db office
+  migrated : (db : Database) → Rises e changes mid.now db → Migrates old.now db office
   unfolding Rises
-  raised db rises =
+  migrated db rises =
       let done = rises found.asks (rows_in_edition e office) (subst (λ it. HoldIn e it (rows_in_edition e office)) (sym found.same.0.now_is) found.holds) in
       record {
         edition = e;
@@ -62,26 +62,26 @@ module _ (e : AnEdition) (office : State) (changes : List Change) (old mid : See
         ruled = done.1;
       }
 
-  pub opens_raised : (new : Seen) → HasSaved (Rises e changes) mid new → Opens old.now new.now office
-  opens_raised new saved = inr (inr (raised new.now saved.step))
+  pub opens_migrated : (new : Seen) → HasSaved (Rises e changes) mid new → Opens old.now new.now office
+  opens_migrated new saved = inr (inr (migrated new.now saved.step))
 
   -- each other table stays
-  pub raised_others : (new : Seen) → HasSaved (Rises e changes) mid new → LeavesTables old.now new.now
+  pub migrated_others : (new : Seen) → HasSaved (Rises e changes) mid new → LeavesTables old.now new.now
   unfolding Rises
-  raised_others new saved =
+  migrated_others new saved =
       let done = saved.step found.asks (rows_in_edition e office) (subst (λ it. HoldIn e it (rows_in_edition e office)) (sym found.same.0.now_is) found.holds) in
       subst (λ (db : Database). LeavesTables db new.now) found.same.0.now_is done.2
 
   -- what a crash leaves of that
-  raised_left : (trees : Trees) → IsLeft (Rises e changes) mid trees → IsLeft Brings old trees
-  raised_left trees left = record { was_open = found.same.0.was_open; db = left.db; sound = left.sound; step = inr (office, raised left.db left.step); same = left.same }
+  migrated_left : (trees : Trees) → MayRecoverTo (Rises e changes) mid trees → MayRecoverTo Brings old trees
+  migrated_left trees left = record { was_open = found.same.0.was_open; db = left.db; sound = left.sound; step = inr (office, migrated left.db left.step); same = left.same }
 
 -- what a crash leaves of reading and migrating
 pub brings_left : (e : AnEdition) (office : State) (changes : List Change) (old mid new : Seen) → IsEarlier e → HasNoneOf (beyond e) old.now.schema → (HasCleanDisk mid → FindsOffice e office changes old mid) → Survives old mid (λ _. ⊥)
-    → Survives mid new (IsLeft (Rises e changes) mid) → Survives old new (IsLeft Brings old)
+    → Survives mid new (MayRecoverTo (Rises e changes) mid) → Survives old new (MayRecoverTo Brings old)
 brings_left e office changes old mid new earlier alone found one two =
-    survives_then old mid new (λ _. ⊥) (IsLeft (Rises e changes) mid) (IsLeft Brings old) (λ _ db none. absurd none)
-    (λ clean trees left. let early : HasCleanDisk mid = omega (arith, two.clean) in raised_left e office changes old mid earlier alone (found early) trees left) one two
+    survives_then old mid new (λ _. ⊥) (MayRecoverTo (Rises e changes) mid) (MayRecoverTo Brings old) (λ _ db none. absurd none)
+    (λ clean trees left. let early : HasCleanDisk mid = omega (arith, two.clean) in migrated_left e office changes old mid earlier alone (found early) trees left) one two
 
 -- each other table stays where nothing changes
 pub others_kept : (old new : Database) → new ≡ old → LeavesTables old new
@@ -103,10 +103,10 @@ unfit_all e db alone later unfit f office fit stands = elim (one_or_apart e f) [
 ]
 
 -- tables of an earlier edition were read, and are not migrated
-pub raise_refused : (e : AnEdition) (office : State) (changes : List Change) (old mid new : Seen) → IsEarlier e → HasNoneOf (beyond e) old.now.schema → FindsOffice e office changes old mid → IsUnchanged old mid → Survives old mid (λ _. ⊥) → HasCleanDisk mid
-    → mid.faults ≤ new.faults → IsStopped (IsHinderedToRaise e changes) mid new → IsStopped IsHinderedOpening old new
-raise_refused e office changes old mid new earlier alone found same survives clean up stops =
-    stopped_after (IsHinderedToRaise e changes) IsHinderedOpening old mid new survives clean up (λ h.
+pub migration_refused : (e : AnEdition) (office : State) (changes : List Change) (old mid new : Seen) → IsEarlier e → HasNoneOf (beyond e) old.now.schema → FindsOffice e office changes old mid → IsUnchanged old mid → Survives old mid (λ _. ⊥) → HasCleanDisk mid
+    → mid.faults ≤ new.faults → IsStopped (IsHinderedToMigrate e changes) mid new → IsStopped IsHinderedOpening old new
+migration_refused e office changes old mid new earlier alone found same survives clean up stops =
+    stopped_after (IsHinderedToMigrate e changes) IsHinderedOpening old mid new survives clean up (λ h.
     inr (inr (record {
       edition = e;
       earlier = earlier;
@@ -114,7 +114,7 @@ raise_refused e office changes old mid new earlier alone found same survives cle
       stands = record { holds = found.holds; allowed = found.allowed; alone = alone };
       rows = found.rows;
       are = found.are;
-      hindered = subst (λ (cs : List Change). IsHinderedToRaise e cs old.step_limit old.now) found.raise (subst (IsHinderedToRaise e changes old.step_limit) same.0.now_is h);
+      hindered = subst (λ (cs : List Change). IsHinderedToMigrate e cs old.step_limit old.now) found.migrate (subst (IsHinderedToMigrate e changes old.step_limit) same.0.now_is h);
     }))) stops
 
 -- what is left unopened by a call is left so by its fault

@@ -6,9 +6,9 @@ use Rattle.sqlite_keyed.proofs.ListLemmas.{along_permutation, map_back}
 use Rattle.sqlite.specs.declared.types.Value.{Value}
 use Rattle.sqlite.specs.declared.types.Value.TheVariants as value
 use Rattle.sqlite_rules.specs.Lists.{Has}
-use Rattle.row_data.specs.declared.cell.Cell.{Cell}
-use Rattle.row_data.specs.declared.cell.Cell.TheVariants.{Text, Number, Bytes}
-use Rattle.row_data.specs.Rows.{Cells}
+use Rattle.row_model.specs.declared.cell.Cell.{Cell}
+use Rattle.row_model.specs.declared.cell.Cell.TheVariants.{Text, Number, Bytes}
+use Rattle.row_model.specs.Rows.{Cells}
 use Rattle.store.specs.Rows.{value_of, values}
 
 module _ {X : Type 0} where

@@ -13,9 +13,9 @@ use Rattle.tables.specs.Keyed.{Stands}
 use Rattle.tables.specs.Steps.{Shows}
 use Rattle.tables.proofs.Runs.{low_tree}
 use Rattle.rolls.specs.State.{State}
-use Rattle.row_data.specs.declared.table.Table.{Table}
-use Rattle.row_data.specs.declared.table.Table.TheVariants.{Edition}
-use Rattle.row_data.specs.Rows.{AllRows, RowOf, of_table}
+use Rattle.row_model.specs.declared.table.Table.{Table}
+use Rattle.row_model.specs.declared.table.Table.TheVariants.{Edition}
+use Rattle.row_model.specs.Rows.{AllRows, RowOf, of_table}
 use Rattle.editions.specs.declared.Edition.{Edition as AnEdition}
 use Rattle.editions.specs.Editions.{AreRowsIn, rows_in_edition}
 use Rattle.store.specs.Editions.{number_of, rolls_of}

@@ -7,20 +7,20 @@ use Rattle.sqlite.specs.Effect.{Database, IsDatabase}
 use Rattle.sqlite.specs.Order.{Row as Values}
 use Rattle.sqlite.specs.Table.{Table as AnyTable}
 use Rattle.sqlite_rules.specs.Lists.{Has}
-use Rattle.row_data.specs.declared.table.Table.{Table}
-use Rattle.row_data.specs.declared.table.Table.TheVariants.{Choice, Edition, RoundAim}
+use Rattle.row_model.specs.declared.table.Table.{Table}
+use Rattle.row_model.specs.declared.table.Table.TheVariants.{Choice, Edition, RoundAim}
 use Rattle.tables.specs.Table.{Place, cells, table_at}
 use Rattle.tables.specs.Keyed.{Stands}
 use Rattle.tables.proofs.SameTrees.{listed_so, stands_so}
 use Rattle.tables.proofs.Runs.{listed_once}
-use Rattle.row_data.specs.Rows.{AllRows, RowOf, SameRows, of_table}
-use Rattle.row_lists.specs.Laws.{RowsGiveOffice}
+use Rattle.row_model.specs.Rows.{AllRows, RowOf, SameRows, of_table}
+use Rattle.change_laws.specs.Laws.{RowsGiveOffice}
 use Rattle.rolls.specs.Fit.{IsFit}
 use Rattle.rolls.specs.Rows.{AreRowsOf}
 use Rattle.rolls.specs.State.{State}
 use Rattle.editions.specs.declared.Edition.{Edition as AnEdition}
 use Rattle.editions.specs.declared.Edition.TheVariants.{First, Second, Third}
-use Rattle.editions.specs.Editions.{HaveNoLater, Renews, renewed, rows_in_edition}
+use Rattle.editions.specs.Editions.{HaveNoLater, RowsMigrate, migrated_rows, rows_in_edition}
 use Rattle.store.specs.Rows.{stored_tables, values}
 use Rattle.store.specs.Editions.{beyond, latest, number_of, rolls_of}
 use Rattle.store.specs.Tables.{HasNoneOf, HoldIn, Opens, StandsIn, TablesOf, numbered}
@@ -85,21 +85,21 @@ none_later Second list office at = tt
 none_later Third list office at = tt
 
 -- the tables stand for one office in an edition
-one_office : RowsGiveOffice → Renews → (e : AnEdition) (db : Database) (office again : State) → StandsIn e db office → StandsIn e db again → IsFit office → IsFit again → again ≡ office
-one_office one renews e db office again s t fit fits =
+one_office : RowsGiveOffice → RowsMigrate → (e : AnEdition) (db : Database) (office again : State) → StandsIn e db office → StandsIn e db again → IsFit office → IsFit again → again ≡ office
+one_office one rows_migrate e db office again s t fit fits =
     let list = gathered (rows_in_edition e office) in
     let at = of_gathered (rows_in_edition e office) in
     let none = none_later e list office at in
     let same = same_rows e db (rows_in_edition e office) (rows_in_edition e again) s.holds t.holds in
-    let of : AreRowsOf (renewed e list) office = (renews e list office none fit).0 (record { same = λ table. IsPermutation-same _ _ (at table); allowed = s.allowed }) in
-    let of_again : AreRowsOf (renewed e list) again = (renews e list again none fits).0 (record { same = λ table. IsPermutation-trans _ _ _ (IsPermutation-same _ _ (at table)) (same table); allowed = t.allowed }) in
+    let of : AreRowsOf (migrated_rows e list) office = (rows_migrate e list office none fit).0 (record { same = λ table. IsPermutation-same _ _ (at table); allowed = s.allowed }) in
+    let of_again : AreRowsOf (migrated_rows e list) again = (rows_migrate e list again none fits).0 (record { same = λ table. IsPermutation-trans _ _ _ (IsPermutation-same _ _ (at table)) (same table); allowed = t.allowed }) in
     one again office fits fit (λ table. IsPermutation-trans _ _ _ (IsPermutation-sym _ _ (of_again table)) (of table))
 
 -- so do those of two databases with the same trees, in any editions
-same_office : RowsGiveOffice → Renews → (e f : AnEdition) (db found : Database) (office again : State) → IsDatabase db → IsDatabase found → found.trees ≡ db.trees → StandsIn e db office → StandsIn f found again → IsFit office → IsFit again
+same_office : RowsGiveOffice → RowsMigrate → (e f : AnEdition) (db found : Database) (office again : State) → IsDatabase db → IsDatabase found → found.trees ≡ db.trees → StandsIn e db office → StandsIn f found again → IsFit office → IsFit again
     → again ≡ office
-same_office one renews e f db found office again sound here trees s t fit fits = elim (one_or_apart e f) [
-  | inl same ↦ one_office one renews f found office again
+same_office one rows_migrate e f db found office again sound here trees s t fit fits = elim (one_or_apart e f) [
+  | inl same ↦ one_office one rows_migrate f found office again
       (subst (λ it. StandsIn it found office) same (record { holds = held; allowed = s.allowed; alone = subst (λ it. HasNoneOf (beyond it) found.schema) (sym same) t.alone })) t fit fits
   | inr (inl apart) ↦ absurd (not_beyond e f found (rows_in_edition e office) (holds_so (rolls_of e) (number_of e) db found (rows_in_edition e office) sound here trees s.holds) apart t.alone)
   | inr (inr apart) ↦ absurd (not_beyond f e db (rows_in_edition f again) (holds_so (rolls_of f) (number_of f) found db (rows_in_edition f again) here sound (sym trees) t.holds) apart s.alone)
@@ -109,12 +109,12 @@ same_office one renews e f db found office again sound here trees s t fit fits =
     held = holds_so (rolls_of e) (number_of e) db found (rows_in_edition e office) sound here trees s.holds
 
 -- what is opened from the trees alone
-pub opens_again : RowsGiveOffice → Renews → (e : AnEdition) (db found opened : Database) (office again : State) → IsDatabase db → IsDatabase found → found.trees ≡ db.trees → StandsIn e db office → IsFit office → IsFit again → Opens found opened again
+pub opens_again : RowsGiveOffice → RowsMigrate → (e : AnEdition) (db found opened : Database) (office again : State) → IsDatabase db → IsDatabase found → found.trees ≡ db.trees → StandsIn e db office → IsFit office → IsFit again → Opens found opened again
     → again ≡ office
-opens_again one renews e db found opened office again sound here trees stands fit fits (inl made) =
+opens_again one rows_migrate e db found opened office again sound here trees stands fit fits (inl made) =
     let held = holds_so (rolls_of e) (number_of e) db found (rows_in_edition e office) sound here trees stands.holds in
     absurd (listed_there Edition held.edition (numbered (number_of e)) found stored_tables held.editions (inl refl) made.0)
-opens_again one renews e db found opened office again sound here trees stands fit fits (inr (inl is)) =
-    same_office one renews e latest db found office again sound here trees stands (in_latest is.1) fit fits
-opens_again one renews e db found opened office again sound here trees stands fit fits (inr (inr raised)) =
-    same_office one renews e raised.edition db found office again sound here trees stands raised.stood fit fits
+opens_again one rows_migrate e db found opened office again sound here trees stands fit fits (inr (inl is)) =
+    same_office one rows_migrate e latest db found office again sound here trees stands (in_latest is.1) fit fits
+opens_again one rows_migrate e db found opened office again sound here trees stands fit fits (inr (inr migrated)) =
+    same_office one rows_migrate e migrated.edition db found office again sound here trees stands migrated.stood fit fits

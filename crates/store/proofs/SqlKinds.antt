@@ -9,16 +9,16 @@ use Rattle.sqlite.specs.Kind.{Kind as SqlKind}
 use Rattle.sqlite.specs.Kind.TheVariants as sql
 use Rattle.sqlite.specs.Order.{Row as Values}
 use Rattle.sqlite_schema.specs.Rules.{kind_code, kind_of}
-use Rattle.row_data.specs.declared.cell.Cell.{Cell}
-use Rattle.row_data.specs.declared.cell.Cell.TheVariants.{Text, Number, Bytes}
-use Rattle.row_data.specs.declared.cell.Kind.{Kind}
-use Rattle.row_data.specs.declared.cell.Kind.TheVariants as kind
-use Rattle.row_data.specs.declared.row.Group.{Group}
-use Rattle.row_data.specs.declared.row.Group.TheVariants.{Key, List as OfList, Placed}
-use Rattle.row_data.specs.declared.table.Table.{Table}
-use Rattle.row_data.specs.declared.table.Table.TheVariants.{Edition}
-use Rattle.row_data.specs.Rows.{Cells, IsPart, IsRow, PartOf, RowOf, are_of, is_of, key_in, keyed, kinds_of, numbered, same_table, shared_kinds}
-use Rattle.row_data.specs.Changes.{table_of}
+use Rattle.row_model.specs.declared.cell.Cell.{Cell}
+use Rattle.row_model.specs.declared.cell.Cell.TheVariants.{Text, Number, Bytes}
+use Rattle.row_model.specs.declared.cell.Kind.{Kind}
+use Rattle.row_model.specs.declared.cell.Kind.TheVariants as kind
+use Rattle.row_model.specs.declared.row.Group.{Group}
+use Rattle.row_model.specs.declared.row.Group.TheVariants.{Key, List as OfList, Placed}
+use Rattle.row_model.specs.declared.table.Table.{Table}
+use Rattle.row_model.specs.declared.table.Table.TheVariants.{Edition}
+use Rattle.row_model.specs.Rows.{Cells, IsPart, IsRow, PartOf, RowOf, are_of, is_of, key_in, keyed, kinds_of, numbered, same_table, shared_kinds}
+use Rattle.row_model.specs.Changes.{table_of}
 use Rattle.tables.specs.Table as sql_table
 use Rattle.tables.specs.Table.{IsRowOf, shape_of}
 use Rattle.store.specs.Rows.{IsAmong, IsRollTable, rolls, value_of, values}

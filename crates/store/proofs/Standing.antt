@@ -3,9 +3,9 @@ use Rattle.std.proofs.Common.{ℕ, List, map}
 use Rattle.std.proofs.lemmas.List.Sorted.{IsPermutation-map, IsPermutation-sym, IsPermutation-trans}
 use Rattle.sqlite.specs.Effect.{Database}
 use Rattle.rolls.specs.State.{State}
-use Rattle.row_data.specs.declared.table.Table.{Table}
-use Rattle.row_data.specs.declared.table.Table.TheVariants.{Edition}
-use Rattle.row_data.specs.Rows.{AllRows, SameRows}
+use Rattle.row_model.specs.declared.table.Table.{Table}
+use Rattle.row_model.specs.declared.table.Table.TheVariants.{Edition}
+use Rattle.row_model.specs.Rows.{AllRows, SameRows}
 use Rattle.tables.specs.Table.{table_at}
 use Rattle.tables.specs.Keyed.{Stands}
 use Rattle.store.specs.Editions.{latest}

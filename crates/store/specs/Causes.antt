@@ -3,34 +3,42 @@ use Rattle.std.specs.Prelude.{◌≡◌, ◌⊎◌, pos, ℕ, List, [], ◌∷�
 use Rattle.sqlite.specs.declared.types.Value.TheVariants.{Int}
 use Rattle.sqlite.specs.Effect.{Database}
 use Rattle.sqlite_rules.specs.Lists.{Has}
-use Rattle.row_data.specs.declared.row.Change.{Change}
-use Rattle.row_data.specs.declared.row.Change.TheVariants.{Add, Put, Remove}
-use Rattle.row_data.specs.declared.table.Table.{Table}
-use Rattle.row_data.specs.declared.table.Table.TheVariants.{Edition}
-use Rattle.row_data.specs.Rows.{RowOf}
+use Rattle.row_model.specs.declared.row.Change.{Change}
+use Rattle.row_model.specs.declared.row.Change.TheVariants.{Add, Put, Remove}
+use Rattle.row_model.specs.declared.table.Table.{Table}
+use Rattle.row_model.specs.declared.table.Table.TheVariants.{Edition}
+use Rattle.row_model.specs.Rows.{RowOf}
 use Rattle.tables.specs.Table.{sql_of}
-use Rattle.tables.specs.Causes.{IsHindered, IsHinderedToPut, IsUnread, IsUnready, Went, WentPutting}
+use Rattle.tables.specs.Causes.{IsHindered, IsUnread, IsUnready, Went}
 use Rattle.sqlite.specs.Order.{Row as Values}
 use Rattle.editions.specs.declared.Edition.{Edition as AnEdition}
-use Rattle.store.specs.Editions.{IsEarlier, beyond, latest, number_of, raised, rolls_of}
+use Rattle.store.specs.Editions.{IsEarlier, beyond, latest, number_of, migrated, rolls_of}
 use Rattle.store.specs.Reading.{AreAllListed}
 use Rattle.store.specs.Rows.{removal, stored_tables, values}
 use Rattle.store.specs.Saving.{AreActedOnAmong}
 use Rattle.store.specs.Tables.{HasNone, StandsIn}
 use Rattle.rolls.specs.State.{State}
-use Rattle.editions.specs.Editions.{AreRowsIn, upgrade}
+use Rattle.editions.specs.Editions.{AreRowsIn, migrating_changes}
+
+-- the statement that makes a change
+abbrev pub text_of : Change → List ℕ
+text_of (Put row) = (sql_of row.table).update
+text_of (Add row) = (sql_of row.table).insert
+text_of (Remove part) = removal part.group
+
+-- and its parameters
+abbrev pub params_of : Change → Values
+params_of (Put row) = values row.cells
+params_of (Add row) = values row.cells
+params_of (Remove part) = values part.cells
 
 -- a change is refused
 abbrev pub IsHinderedChange : Change → Option ℕ → Database → Type 0
-IsHinderedChange (Put row) = IsHinderedToPut row.table (values row.cells)
-IsHinderedChange (Add row) = IsHindered (sql_of row.table).insert (values row.cells)
-IsHinderedChange (Remove part) = IsHindered (removal part.group) (values part.cells)
+IsHinderedChange change = IsHindered (text_of change) (params_of change)
 
 -- a change goes through
 abbrev pub GoesThrough : Change → Option ℕ → Database → Database → Type 0
-GoesThrough (Put row) = WentPutting row.table (values row.cells)
-GoesThrough (Add row) = Went (sql_of row.table).insert (values row.cells)
-GoesThrough (Remove part) = Went (removal part.group) (values part.cells)
+GoesThrough change = Went (text_of change) (params_of change)
 
 -- several go through one after another
 abbrev pub Ran : {X : Type 0} → (X → Option ℕ → Database → Database → Type 0) → List X → Option ℕ → Database → Database → Type 0
@@ -73,26 +81,26 @@ pub record IsHinderedNumbering (limit : Option ℕ) (db : Database) : Type 0 whe
   pub hindered : IsHindered (sql_of Edition).insert latest_number limit between
 
 -- the tables cannot be made
-abbrev pub IsHinderedFounding : Option ℕ → Database → Type 0
-IsHinderedFounding limit db = IsHinderedMaking stored_tables limit db ⊎ IsHinderedNumbering limit db
+abbrev pub IsHinderedCreating : Option ℕ → Database → Type 0
+IsHinderedCreating limit db = IsHinderedMaking stored_tables limit db ⊎ IsHinderedNumbering limit db
 
 -- a table that an edition lacks is refused, or, once they are made, a change
-abbrev pub IsHinderedToExtend : AnEdition → List Change → Option ℕ → Database → Type 0
-IsHinderedToExtend e changes limit db = IsHinderedMaking (beyond e) limit db ⊎ ((made : Database) × RanTables (beyond e) limit db made × IsHinderedAmong changes limit made)
+abbrev pub IsHinderedToAddTables : AnEdition → List Change → Option ℕ → Database → Type 0
+IsHinderedToAddTables e changes limit db = IsHinderedMaking (beyond e) limit db ⊎ ((made : Database) × RanTables (beyond e) limit db made × IsHinderedAmong changes limit made)
 
 -- what comes after the number is refused
 pub record IsHinderedBeyond (e : AnEdition) (changes : List Change) (limit : Option ℕ) (db : Database) : Type 0 where
   pub between : Database
-  pub numbered : WentPutting Edition latest_number limit db between
-  pub hindered : IsHinderedToExtend e changes limit between
+  pub numbered : Went (sql_of Edition).update latest_number limit db between
+  pub hindered : IsHinderedToAddTables e changes limit between
 
 -- the number of the latest edition is refused, or what comes after it
-abbrev pub IsHinderedToLift : AnEdition → List Change → Option ℕ → Database → Type 0
-IsHinderedToLift e changes limit db = IsHinderedToPut Edition latest_number limit db ⊎ IsHinderedBeyond e changes limit db
+abbrev pub IsHinderedToLiftEdition : AnEdition → List Change → Option ℕ → Database → Type 0
+IsHinderedToLiftEdition e changes limit db = IsHindered (sql_of Edition).update latest_number limit db ⊎ IsHinderedBeyond e changes limit db
 
 -- the tables of an earlier edition cannot be migrated by these changes: a foreign key acts on those that change, or a statement is refused
-abbrev pub IsHinderedToRaise : AnEdition → List Change → Option ℕ → Database → Type 0
-IsHinderedToRaise e changes limit db = AreActedOnAmong raised db.schema ⊎ IsHinderedToLift e changes limit db
+abbrev pub IsHinderedToMigrate : AnEdition → List Change → Option ℕ → Database → Type 0
+IsHinderedToMigrate e changes limit db = AreActedOnAmong migrated db.schema ⊎ IsHinderedToLiftEdition e changes limit db
 
 -- one of the tables of an edition cannot be read, where all of them are listed with their columns and rules
 pub record IsHinderedReading (limit : Option ℕ) (db : Database) : Type 0 where
@@ -103,15 +111,15 @@ pub record IsHinderedReading (limit : Option ℕ) (db : Database) : Type 0 where
   pub hindered : IsUnread (sql_of table).select limit db
 
 -- the tables stand for an office in an earlier edition, and the changes that bring its rows to the latest are refused
-pub record IsHinderedRaising (limit : Option ℕ) (db : Database) : Type 0 where
+pub record IsHinderedMigrating (limit : Option ℕ) (db : Database) : Type 0 where
   pub edition : AnEdition
   pub earlier : IsEarlier edition
   pub office : State
   pub stands : StandsIn edition db office
   pub rows : List RowOf
   pub are : AreRowsIn edition rows office
-  pub hindered : IsHinderedToRaise edition (upgrade edition rows) limit db
+  pub hindered : IsHinderedToMigrate edition (migrating_changes edition rows) limit db
 
 -- the tables are not there and cannot be made, one cannot be read, or those of an earlier edition cannot be migrated
 abbrev pub IsHinderedOpening : Option ℕ → Database → Type 0
-IsHinderedOpening limit db = (HasNone db.schema × IsHinderedFounding limit db) ⊎ (IsHinderedReading limit db ⊎ IsHinderedRaising limit db)
+IsHinderedOpening limit db = (HasNone db.schema × IsHinderedCreating limit db) ⊎ (IsHinderedReading limit db ⊎ IsHinderedMigrating limit db)

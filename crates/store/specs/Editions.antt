@@ -3,8 +3,8 @@ use Rattle.std.specs.Prelude.{ℕ, ⊤, List, [], ◌∷◌, drop, take}
 use Rattle.editions.specs.declared.Edition.{Edition}
 use Rattle.editions.specs.declared.Edition.TheVariants.{First, Second, Third}
 use Rattle.editions.specs.Editions.{olds}
-use Rattle.row_data.specs.declared.table.Table.{Table}
-use Rattle.row_data.specs.declared.table.Table.TheVariants.{Edition as EditionTable}
+use Rattle.row_model.specs.declared.table.Table.{Table}
+use Rattle.row_model.specs.declared.table.Table.TheVariants.{Edition as EditionTable}
 use Rattle.store.specs.Rows.{rolls}
 
 -- the edition in which tables are made
@@ -30,8 +30,8 @@ beyond Second = drop 8 rolls
 beyond Third = []
 
 -- the tables in which rows are replaced or taken out where those of an earlier edition are migrated
-abbrev pub raised : List Table
-raised = EditionTable ∷ olds
+abbrev pub migrated : List Table
+migrated = EditionTable ∷ olds
 
 -- it is not the latest
 abbrev pub IsEarlier : Edition → Type 0

@@ -2,7 +2,7 @@
 pub mod Causes
 pub mod Editions
 pub mod Faults
-pub mod Raising
+pub mod Migrating
 pub mod Reading
 pub mod Saving
 pub mod Tables

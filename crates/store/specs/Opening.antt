@@ -5,7 +5,7 @@ use Rattle.sqlite.specs.State.{HasCleanDisk, Survives}
 use Rattle.sqlite_trees.specs.declared.store.Store.{Ghosts}
 use Rattle.rolls.specs.State.{State}
 use Rattle.tables.specs.Causes.{IsStopped}
-use Rattle.tables.specs.Steps.{IsKept, IsLeft}
+use Rattle.tables.specs.Steps.{IsKept, MayRecoverTo}
 use Rattle.store.specs.Causes.{IsHinderedOpening}
 use Rattle.store.specs.Reading.{IsDamaged}
 use Rattle.store.specs.Tables.{Brings, HasNone, LeavesAlone, LeavesTables, Opens}
@@ -20,7 +20,7 @@ module _ {S : Type 0} (ghosts : Ghosts S) where
     pub alone : HasCleanDisk (state ghosts new) → LeavesAlone (state ghosts new)
     pub is_open : HasCleanDisk (state ghosts new) → IsTrue (state ghosts new).is_open
     -- a crash leaves what it could leave before, tables of the empty office where none was there, or migrated tables
-    pub crash : Survives (state ghosts old) (state ghosts new) (IsLeft Brings (state ghosts old))
+    pub crash : Survives (state ghosts old) (state ghosts new) (MayRecoverTo Brings (state ghosts old))
 
   -- no office was opened, and the connection is given back; whether that is returned as a fault of the storage, or as damage
   pub record IsLeftUnopened (IsStorage IsDamage : Type 0) (old new : Held S) : Type 0 where
@@ -33,4 +33,4 @@ module _ {S : Type 0} (ghosts : Ghosts S) where
         → IsStopped IsHinderedOpening (state ghosts old) (state ghosts new)
     pub given_back : old.in_transaction ≡ false → new.in_transaction ≡ false
     -- a crash leaves what it could leave before, or what an opening may make
-    pub crash : Survives (state ghosts old) (state ghosts new) (IsLeft Brings (state ghosts old))
+    pub crash : Survives (state ghosts old) (state ghosts new) (MayRecoverTo Brings (state ghosts old))

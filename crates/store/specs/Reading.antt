@@ -3,8 +3,8 @@ use Rattle.std.specs.Prelude.{◌≢◌, List}
 use Rattle.sqlite.specs.Effect.{Database}
 use Rattle.rolls.specs.State.{State}
 use Rattle.rolls.specs.Fit.{IsFit}
-use Rattle.row_data.specs.declared.table.Table.{Table}
-use Rattle.row_data.specs.declared.table.Table.TheVariants.{Edition}
+use Rattle.row_model.specs.declared.table.Table.{Table}
+use Rattle.row_model.specs.declared.table.Table.TheVariants.{Edition}
 use Rattle.editions.specs.declared.Edition.{Edition as AnEdition}
 use Rattle.store.specs.Editions.{beyond, rolls_of}
 use Rattle.store.specs.Rows.{IsAmong}

@@ -4,12 +4,12 @@ use Rattle.sqlite.specs.declared.types.Value.{Value}
 use Rattle.sqlite.specs.declared.types.Value.TheVariants as value
 use Rattle.sqlite.specs.Order.{Row as Values}
 use Rattle.sqlite_rules.specs.Lists.{Has}
-use Rattle.row_data.specs.declared.cell.Cell.{Cell}
-use Rattle.row_data.specs.declared.cell.Cell.TheVariants.{Text, Number, Bytes}
-use Rattle.row_data.specs.declared.row.Group.{Group}
-use Rattle.row_data.specs.declared.row.Group.TheVariants.{Key, List as OfList, Placed}
-use Rattle.row_data.specs.declared.table.Table.{Table}
-use Rattle.row_data.specs.Rows.{Cells, all_tables}
+use Rattle.row_model.specs.declared.cell.Cell.{Cell}
+use Rattle.row_model.specs.declared.cell.Cell.TheVariants.{Text, Number, Bytes}
+use Rattle.row_model.specs.declared.row.Group.{Group}
+use Rattle.row_model.specs.declared.row.Group.TheVariants.{Key, List as OfList, Placed}
+use Rattle.row_model.specs.declared.table.Table.{Table}
+use Rattle.row_model.specs.Rows.{Cells, all_tables}
 use Rattle.tables.specs.declared.table.Group.TheVariants as group
 use Rattle.tables.specs.Table.{sharing, sql_of}
 

@@ -4,13 +4,13 @@ use Rattle.std.specs.List.{AllByRecursion}
 use Rattle.sqlite.specs.Schema.{Schema}
 use Rattle.sqlite.specs.Table.{Table as AnyTable}
 use Rattle.sqlite_rules.specs.Lists.{Has}
-use Rattle.row_data.specs.declared.table.Table.{Table}
+use Rattle.row_model.specs.declared.table.Table.{Table}
 use Rattle.sqlite.specs.Effect.{Database}
 use Rattle.sqlite.specs.State.{State as Seen}
-use Rattle.row_data.specs.declared.row.Change.{Change}
-use Rattle.row_data.specs.declared.row.Change.TheVariants.{Add}
-use Rattle.row_data.specs.Rows.{AllRows}
-use Rattle.row_data.specs.Changes.{AreFresh, after_changes, changed}
+use Rattle.row_model.specs.declared.row.Change.{Change}
+use Rattle.row_model.specs.declared.row.Change.TheVariants.{Add}
+use Rattle.row_model.specs.Rows.{AllRows}
+use Rattle.row_model.specs.Changes.{after_changes, changed}
 use Rattle.tables.specs.Table.{Place, Lists, table_at}
 use Rattle.store.specs.Rows.{IsAmong, IsRollTable, rolls}
 use Rattle.tables.specs.Writes.{IsInert}
@@ -65,19 +65,13 @@ Needs c schema = IsRollTable (changed c) → IsLeftAlone (changed c) schema
 abbrev pub AllNeed : List Change → Schema → Type 0
 AllNeed changes schema = AllByRecursion (λ change. Needs change schema) changes
 
--- the same, of a run of statements, which spare the other tables and add rows of new keys alone
+-- the same, of a run of statements, which spare the other tables
 unfoldable pub Applies : List Change → Database → Database → Type 0
 Applies changes old new =
-    AllNeed changes old.schema → (rows : AllRows) → TablesHold old rows → TablesHold new (after_changes changes rows) × Spares old new × AreFresh changes rows
+    AllNeed changes old.schema → (rows : AllRows) → TablesHold old rows → TablesHold new (after_changes changes rows) × Spares old new
 
--- where the tables held rows, nothing stood at the key of a row when it was added
-unfoldable pub AddsNew : List Change → Database → Type 0
-AddsNew changes old = (rows : AllRows) → TablesHold old rows → AreFresh changes rows
-
--- these changes were saved: the tables hold the rows after them, each other table stays, a crash leaves what is seen, and no row was added
--- at a key that has one
+-- these changes were saved: the tables hold the rows after them, each other table stays, and a crash leaves what is seen
 pub record IsSaving (changes : List Change) (old new : Seen) : Type 0 where
   pub saved : HasSaved (Saves changes) old new
   pub others : LeavesOthers old.now new.now
   pub alone : LeavesAlone new
-  pub fresh : AddsNew changes old.now

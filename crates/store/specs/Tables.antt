@@ -10,9 +10,9 @@ use Rattle.sqlite.specs.State.{State as Seen}
 use Rattle.sqlite_rules.specs.Lists.{Has}
 use Rattle.rolls.specs.Rows.{rows_in}
 use Rattle.rolls.specs.State.{State, empty}
-use Rattle.row_data.specs.Rows.{AllRows}
-use Rattle.row_data.specs.declared.table.Table.{Table}
-use Rattle.row_data.specs.declared.table.Table.TheVariants.{Edition as EditionTable}
+use Rattle.row_model.specs.Rows.{AllRows}
+use Rattle.row_model.specs.declared.table.Table.{Table}
+use Rattle.row_model.specs.declared.table.Table.TheVariants.{Edition as EditionTable}
 use Rattle.tables.specs.Table.{Place, Lists, made_here, rules_of, shape_of, table_at}
 use Rattle.tables.specs.Inert.{IsActedOn}
 use Rattle.tables.specs.Keyed.{Stands}
@@ -92,13 +92,13 @@ pub record MakesTables (tables : List Table) (old new : Database) : Type 0 where
   pub quiet : (t : AnyTable) → Lists old.schema t → IsActedOn new.schema.tables t.tree → IsActedOn old.schema.tables t.tree
 
 -- a database with none of the tables comes to stand for the empty office
-pub record Founds (old new : Database) : Type 0 where
+pub record CreatesTables (old new : Database) : Type 0 where
   pub none : HasNone old.schema
   pub stands : StandsFor new empty
   pub ruled : AreRuled new.schema
 
 -- tables that stood for a fit office in an earlier edition come to stand for it in the latest one
-pub record Raises (old new : Database) (office : State) : Type 0 where
+pub record Migrates (old new : Database) (office : State) : Type 0 where
   pub edition : Edition
   pub earlier : IsEarlier edition
   pub stood : StandsIn edition old office
@@ -108,12 +108,12 @@ pub record Raises (old new : Database) (office : State) : Type 0 where
 
 -- what an opening may make of a database
 abbrev pub Brings : Database → Database → Type 0
-Brings old new = Founds old new ⊎ ((office : State) × Raises old new office)
+Brings old new = CreatesTables old new ⊎ ((office : State) × Migrates old new office)
 
 -- what was opened: the empty office where none of the tables was there, else the office that they stand for, in an earlier edition or in
 -- the latest one, to which an earlier one is migrated
 abbrev pub Opens : Database → Database → State → Type 0
-Opens old new office = (HasNone old.schema × (office ≡ empty) × StandsFor new empty × AreRuled new.schema) ⊎ (((new ≡ old) × StandsFor old office) ⊎ Raises old new office)
+Opens old new office = (HasNone old.schema × (office ≡ empty) × StandsFor new empty × AreRuled new.schema) ⊎ (((new ≡ old) × StandsFor old office) ⊎ Migrates old new office)
 
 -- a crash leaves what is seen, and nothing else
 abbrev pub LeavesAlone : Seen → Type 0

@@ -18,4 +18,4 @@ pub const TABLES: [Table; 11] = [
 ];
 
 /// Those in which rows are replaced or taken out where tables of an earlier edition are migrated.
-pub const RAISED: [Table; 3] = [Table::Edition, Table::OldChoice, Table::OldPlacement];
+pub const MIGRATED: [Table; 3] = [Table::Edition, Table::OldChoice, Table::OldPlacement];

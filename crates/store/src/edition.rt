@@ -5,7 +5,7 @@ ghost use Rattle.store.specs.Editions.{beyond, number_of, rolls_of};
 ghost use Rattle.store.specs.Tables.{HasNoneOf};
 
 use crate::all_tables::TABLES;
-use crate::founding::has_none_of;
+use crate::creating::has_none_of;
 use editions::Edition;
 use sqlite_schema::schema::Schema;
 use tables::Table;
@@ -28,6 +28,7 @@ pub fn number_of(edition: Edition) -> u32
 pub fn rolls_of(edition: Edition) -> &'static [Table]
     ensures { result.now ≡ rolls_of edition }
 {
+    // An edition adds its tables at the end, so that each has the first of one array: no table can be left out of a list.
     match edition {
         Edition::First => &TABLES[1..8],
         Edition::Second => &TABLES[1..9],
@@ -51,6 +52,7 @@ pub fn edition_of(schema: &Schema) -> Edition
     ensures alone { HasNoneOf (beyond result) schema.now }
     ensures later { (e : Edition) → number_of e < number_of result → HasNoneOf (beyond e) schema.now → ⊥ }
 {
+    // One table of a later edition makes it that one. Where its others are not there, the tables are damaged.
     if has_none_of(schema, beyond(Edition::First)) {
         Edition::First
     } else if has_none_of(schema, beyond(Edition::Second)) {

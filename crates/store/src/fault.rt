@@ -5,7 +5,7 @@ ghost use Rattle.store.specs.declared.fault.StoreFault.TheVariants.{Memory};
 ghost use Rattle.store.specs.Inside.Faults.{of_rows, of_table};
 ghost use Rattle.tables.specs.Faults.{fault_of};
 
-use from_rows::RowsFault;
+use decoding::RowsFault;
 use sqlite::Error;
 use std::alloc::{AllocError, AllocFailed};
 use tables::fault::TableFault;

@@ -2,13 +2,13 @@
 
 ghost use Rattle.store.specs.Laws.{OpensAgain};
 
-use editions::renewal_law;
-use row_lists::rows_law;
+use change_laws::rows_law;
+use editions::migrated_rows_law;
 
 /// Tables that stand for an office are opened as that office and no other, from the trees of their database alone.
 pub fn opening_law()
     ensures { OpensAgain }
 {
     rows_law();
-    renewal_law();
+    migrated_rows_law();
 }

@@ -9,23 +9,23 @@
 //! says what a crash leaves, which opens as the office that its tables stand for (`opening_law`). Other tables
 //! are left alone. `has_none` says whether a database is new. Begin with `specs/Tables.antt`, then `store.rt`.
 //!
-//! A further table of rows is one of `TABLES` more; a further edition is an arm each in `edition.rt` and in
-//! `specs/Editions.antt`.
+//! A further table of rows is one more of `TABLES`, with the editions that have it (`rolls_of`) and that lack it (`beyond`); a further
+//! edition is an arm each in `edition.rt` and in `specs/Editions.antt`.
 #![tactic(auto)]
 
 mod all_tables;
+mod creating;
 mod edition;
 mod fault;
-mod founding;
 mod laws;
+mod migrating;
 mod quiet;
-mod raising;
 mod reading;
 mod rows;
 mod saving;
 mod store;
 
+pub use creating::has_none;
 pub use fault::StoreFault;
-pub use founding::has_none;
 pub use laws::opening_law;
 pub use store::Store;

@@ -16,6 +16,7 @@ fn is_left(schema: &Schema, table: Table) -> bool
 {
     match tree_of(schema, table) {
         Some(tree) => is_inert(schema, tree),
+        // No statement of the store reaches rows of a table that is not listed as it is made here, so no action follows from one.
         None => true,
     }
 }

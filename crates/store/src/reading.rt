@@ -22,7 +22,9 @@ ghost use Rattle.store.specs.Inside.Reading.{IsAlone, IsElsewhere, IsListedAlone
 use crate::edition::{number_of, rolls_of};
 use crate::fault::StoreFault;
 use crate::rows::rows_with;
-use editions::{Edition, renewal_law, renewed, upgrade, upgrade_law};
+use editions::{
+    Edition, migrated_rows, migrated_rows_law, migrating_changes, migrating_changes_law,
+};
 use office::Office;
 use rolls::{Change, Row};
 use sqlite::{Alter, Connection, Row as Cells};
@@ -52,6 +54,7 @@ fn is_alone(schema: &Schema, tables: &[Table], table: Table, tree: u32) -> bool
     ensures right { IsTrue result → IsAlone tables.now table tree schema.now }
     ensures wrong { result ≡ false → IsAlone tables.now table tree schema.now → ⊥ }
 {
+    // Under two names in one tree there would be one list of rows, and a statement over one table would change the other.
     for other in tables {
         if shares(schema, *other, table, tree) {
             return false;
@@ -105,6 +108,7 @@ fn are_numbered(all: &[Cells], edition: Edition) -> bool
 {
     let number = number_of(edition);
     match all {
+        // A rowid, the id 1 and the number. Two rows would leave open which of them is meant.
         [cells] => {
             cells.column_count() == 3 && is_number(cells, 1, 1) && is_number(cells, 2, number)
         }
@@ -177,6 +181,7 @@ fn rows_in<S: Alter>(
     ensures mode { conn.old.in_transaction ≡ false → conn.new.in_transaction ≡ false }
     ensures survives { Survives (state S.Store conn.old) (state S.Store conn.new) (λ _. ⊥) }
 {
+    // Before anything is read: of a table that is listed otherwise no reading says which rows it has.
     if !are_all_listed(conn.schema(), rolls_of(edition)) {
         return Err(StoreFault::Damaged);
     }
@@ -210,12 +215,14 @@ pub fn office_in<S: Alter>(
     ensures mode { conn.old.in_transaction ≡ false → conn.new.in_transaction ≡ false }
     ensures survives { Survives (state S.Store conn.old) (state S.Store conn.new) (λ _. ⊥) }
 {
-    renewal_law();
-    upgrade_law();
+    migrated_rows_law();
+    migrating_changes_law();
     let rows = rows_in(alloc, conn, edition)?;
-    let changes = upgrade(alloc, edition, &rows)?;
-    let all = renewed(alloc, edition, rows)?;
+    // While the rows of this edition are there: `migrated_rows` takes them over.
+    let changes = migrating_changes(alloc, edition, &rows)?;
+    let all = migrated_rows(alloc, edition, rows)?;
     let office = office_from(alloc, all)?;
+    // The law that an office is fit.
     office.fit();
     Ok((office, changes))
 }

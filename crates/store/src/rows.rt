@@ -3,13 +3,13 @@
 ghost use Rattle.std.specs.Prelude.{◌≡◌, ◌≢◌, true, IfOk, drop};
 ghost use Rattle.sqlite.specs.Order.{Row as Values, column};
 ghost use Rattle.sqlite_rules.specs.Lists.{Has};
-ghost use Rattle.row_data.specs.declared.cell.Cell.{Cell as AnyCell};
-ghost use Rattle.row_data.specs.Rows.{is_of};
+ghost use Rattle.row_model.specs.declared.cell.Cell.{Cell as AnyCell};
+ghost use Rattle.row_model.specs.Rows.{is_of};
 ghost use Rattle.store.specs.Rows.{value_of};
 ghost use Rattle.store.specs.Inside.Reading.{AreReadRows, IsNoRow, IsRowWith, IsTyped};
 
 use crate::fault::StoreFault;
-use row_data::{Bytes, Cell, Kind, Row, Table, Text};
+use row_model::{Bytes, Cell, Kind, Row, Table, Text};
 use sqlite::Row as Columns;
 use sqlite_value::value::ValueRef;
 use std::alloc::Global;
@@ -26,11 +26,13 @@ fn cell_at(alloc: Global, columns: &Columns, at: usize, kind: Kind) -> Result<Ce
     };
     match (kind, value) {
         (Kind::Text, ValueRef::Text(bytes)) => {
+            // The database takes any bytes as a TEXT, an office only UTF-8.
             let Ok(text) = std::str::from_utf8(bytes) else {
                 return Err(StoreFault::Damaged);
             };
             Ok(Cell::text(alloc, text)?)
         }
+        // SQL's integers are wider than any number of an office.
         (Kind::Number, ValueRef::Int(number)) => match u32::try_from(number) {
             Ok(number) => Ok(Cell::Number(number)),
             Err(_) => Err(StoreFault::Damaged),
@@ -50,6 +52,7 @@ fn row_with(alloc: Global, table: Table, columns: &Columns) -> Result<Row, Store
     ensures faults { result ≢ Err StoreFault.Storage }
 {
     let kinds = table.kinds();
+    // The edition's row is of no office, and is judged where its number is read. One column more, since the rowid comes first.
     if table == Table::Edition || columns.column_count() != kinds.len() + 1 {
         return Err(StoreFault::Damaged);
     }

@@ -6,19 +6,18 @@ ghost use Rattle.sqlite.specs.State.{HasCleanDisk, Survives};
 ghost use Rattle.sqlite.specs.Held.{state};
 ghost use Rattle.sqlite.specs.Values.{bound, bound_value};
 ghost use Rattle.sqlite_value.specs.Value.{owned};
-ghost use Rattle.tables.specs.Causes.{FailsToEnter, FailsToWrite, IsCaused, IsCausedInside, IsHindered, IsHinderedToEnter, IsRunInside, IsStarvedInside, IsToldInside, Went, WentEntering};
-ghost use Rattle.tables.specs.Steps.{Does, HasSaved, HasStepped, IsKept, IsLeft};
+ghost use Rattle.tables.specs.Causes.{FailsToWrite, IsCaused, IsCausedInside, IsHindered, IsRunInside, IsStarvedInside, IsToldInside, Went};
+ghost use Rattle.tables.specs.Steps.{Does, HasSaved, HasStepped, IsKept, MayRecoverTo};
 ghost use Rattle.tables.specs.Inside.Steps.{Stays};
-ghost use Rattle.tables.specs.Table.{IsRowOf, key_in, table_at};
-ghost use Rattle.tables.specs.Writes.{Enters};
-ghost use Rattle.store.specs.Causes.{GoesThrough, IsHinderedAmong, IsHinderedChange, IsHinderedToSave};
-ghost use Rattle.store.specs.Inside.Causes.{FailsToChange};
+ghost use Rattle.tables.specs.Table.{IsRowOf, key_in, sql_of, table_at};
+ghost use Rattle.tables.specs.Writes.{Enters, entering};
+ghost use Rattle.store.specs.Causes.{GoesThrough, IsHinderedAmong, IsHinderedChange, IsHinderedToSave, params_of, text_of};
 ghost use Rattle.store.specs.Rows.{removal, value_of, values};
 ghost use Rattle.store.specs.Saving.{Applies, AreActedOn, LeavesOthers, Saves};
 ghost use Rattle.store.specs.Inside.Saving.{AppliesOne, IsPartOf, Leaves};
 
 use crate::fault::StoreFault;
-use row_data::{Cell, Change, Group, Table};
+use row_model::{Cell, Change, Group, Table};
 use sqlite::{Alter, Connection, Transaction};
 use sqlite_value::value::ValueRef;
 use tables::Group as Sharing;
@@ -48,14 +47,16 @@ fn enter_cells<S: Alter>(
 
     ensures same_reference { tx.new.conn.ghost_name ≡ tx.old.conn.ghost_name }
     ensures step { Does (HasStepped (Enters way (table_at table) (key_in table (values cells.now)) (values cells.now))) result (state S.Store tx.old.conn.now) (state S.Store tx.new.conn.now) }
-    ensures ran { IsRunInside (WentEntering way table (values cells.now)) result (state S.Store tx.old.conn.now) (state S.Store tx.new.conn.now) }
-    ensures told { IsToldInside (FailsToEnter way table (values cells.now)) result (state S.Store tx.old.conn.now) (state S.Store tx.new.conn.now) }
-    ensures cause { IsCausedInside (IsHinderedToEnter way table (values cells.now)) result (state S.Store tx.old.conn.now) (state S.Store tx.new.conn.now) }
+    ensures ran { IsRunInside (Went (entering way (sql_of table)) (values cells.now)) result (state S.Store tx.old.conn.now) (state S.Store tx.new.conn.now) }
+    ensures told { IsToldInside (FailsToWrite (entering way (sql_of table)) (values cells.now)) result (state S.Store tx.old.conn.now) (state S.Store tx.new.conn.now) }
+    ensures cause { IsCausedInside (IsHindered (entering way (sql_of table)) (values cells.now)) result (state S.Store tx.old.conn.now) (state S.Store tx.new.conn.now) }
 {
+    // Set out by length: an array of borrowed values is made without an allocation.
     match cells {
         [a, b] => enter(tx, way, table, &[value(a), value(b)]),
         [a, b, c] => enter(tx, way, table, &[value(a), value(b), value(c)]),
         [a, b, c, d] => enter(tx, way, table, &[value(a), value(b), value(c), value(d)]),
+        // Cannot be: each table has two to four columns.
         _ => unreachable!(),
     }
 }
@@ -99,6 +100,7 @@ fn leave_cells<S: Alter>(
         [a] => leave(tx, group, &[value(a)]),
         [a, b] => leave(tx, group, &[value(a), value(b)]),
         [a, b, c] => leave(tx, group, &[value(a), value(b), value(c)]),
+        // Cannot be: a key has one column or three, and the rows of a list or of a round's placements share two or one.
         _ => unreachable!(),
     }
 }
@@ -108,7 +110,7 @@ fn apply<S: Alter>(tx: &mut Transaction<'_, S>, change: &Change) -> Result<(), T
     ensures same_reference { tx.new.conn.ghost_name ≡ tx.old.conn.ghost_name }
     ensures step { Does (HasStepped (AppliesOne change.now)) result (state S.Store tx.old.conn.now) (state S.Store tx.new.conn.now) }
     ensures ran { IsRunInside (GoesThrough change.now) result (state S.Store tx.old.conn.now) (state S.Store tx.new.conn.now) }
-    ensures told { IsToldInside (FailsToChange change.now) result (state S.Store tx.old.conn.now) (state S.Store tx.new.conn.now) }
+    ensures told { IsToldInside (FailsToWrite (text_of change.now) (params_of change.now)) result (state S.Store tx.old.conn.now) (state S.Store tx.new.conn.now) }
     ensures cause { IsCausedInside (IsHinderedChange change.now) result (state S.Store tx.old.conn.now) (state S.Store tx.new.conn.now) }
 {
     match change {
@@ -140,13 +142,14 @@ pub fn save_all<S: Alter>(conn: &mut Connection<S>, changes: &[Change]) -> Resul
     ensures err { HasCleanDisk (state S.Store conn.new) → OnErr result (IsKept (state S.Store conn.old) (state S.Store conn.new)) }
     ensures faults { result ≢ Err StoreFault.Damaged }
     ensures cause { conn.old.in_transaction ≡ false → IsCaused StoreFault.Storage (IsHinderedToSave changes.now) result (state S.Store conn.old) (state S.Store conn.new) }
-    ensures crash { Survives (state S.Store conn.old) (state S.Store conn.new) (IsLeft (Applies changes.now) (state S.Store conn.old)) }
+    ensures crash { Survives (state S.Store conn.old) (state S.Store conn.new) (MayRecoverTo (Applies changes.now) (state S.Store conn.old)) }
     ensures ended { conn.old.in_transaction ≡ false → conn.new.in_transaction ≡ false }
     ensures begun { IsTrue conn.old.in_transaction → result ≡ Err StoreFault.Storage }
 {
     if !conn.is_autocommit() {
         return Err(StoreFault::Storage);
     }
+    // Only of an open connection can it be said that a crash leaves a database (`need_open` *sound*).
     need_open(conn)?;
     let mut tx = conn.transaction();
     apply_all(&mut tx, changes)?;

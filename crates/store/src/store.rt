@@ -3,7 +3,7 @@
 ghost use Rattle.std.specs.Prelude.{◌≡◌, ◌≢◌, IsTrue, false, Err, IfOk, IfErr, IsErr, OnOk, OnErr};
 ghost use Rattle.sqlite.specs.State.{HasCleanDisk, IsLive, Survives};
 ghost use Rattle.sqlite.specs.Held.{state};
-ghost use Rattle.tables.specs.Steps.{IsKept, IsLeft};
+ghost use Rattle.tables.specs.Steps.{IsKept, MayRecoverTo};
 ghost use Rattle.tables.specs.Causes.{IsCaused};
 ghost use Rattle.store.specs.Causes.{IsHinderedReading, IsHinderedToSave};
 ghost use Rattle.store.specs.Editions.{IsEarlier, latest};
@@ -13,11 +13,11 @@ ghost use Rattle.store.specs.Opening.{IsOpening, IsLeftUnopened};
 ghost use Rattle.store.specs.Reading.{AreListed, IsUnfit};
 ghost use Rattle.store.specs.Saving.{AreActedOn, IsSaving, Saves};
 
+use crate::creating::{create_tables, has_none};
 use crate::edition::{LATEST, edition_of};
 use crate::fault::StoreFault;
-use crate::founding::{found, has_none};
+use crate::migrating::migrate;
 use crate::quiet::are_left;
-use crate::raising::raise;
 use crate::reading::office_in;
 use crate::saving::save_all;
 use editions::Edition;
@@ -56,7 +56,7 @@ fn open_new<S: Alter>(alloc: Global, conn: &mut Connection<S>) -> Result<Office,
     ensures opened { IfOk result (IsOpening S.Store conn.old conn.new) }
     ensures unopened { IfErr result (λ fault. IsLeftUnopened S.Store (fault ≡ StoreFault.Storage) (fault ≡ StoreFault.Damaged) conn.old conn.new) }
 {
-    found(conn)?;
+    create_tables(conn)?;
     Ok(Office::new(alloc))
 }
 
@@ -69,6 +69,7 @@ fn open_latest<S: Alter>(alloc: Global, conn: &mut Connection<S>) -> Result<Offi
     ensures unopened { IfErr result (λ fault. IsLeftUnopened S.Store (fault ≡ StoreFault.Storage) (fault ≡ StoreFault.Damaged) conn.old conn.new) }
     ensures unlisted { (AreListed (state S.Store conn.old).now.schema → ⊥) → result ≡ Err StoreFault.Damaged }
 {
+    // There are no changes: nothing of the latest edition is migrated.
     let (read, _) = office_in(alloc, conn, LATEST)?;
     Ok(read)
 }
@@ -87,9 +88,9 @@ fn open_earlier<S: Alter>(
     ensures unopened { IfErr result (λ fault. IsLeftUnopened S.Store (fault ≡ StoreFault.Storage) (fault ≡ StoreFault.Damaged) conn.old conn.new) }
     ensures unlisted { (AreListed (state S.Store conn.old).now.schema → ⊥) → result ≡ Err StoreFault.Damaged }
 {
-    let (raised, changes) = office_in(alloc, conn, edition)?;
-    raise(conn, edition, &changes)?;
-    Ok(raised)
+    let (migrated, changes) = office_in(alloc, conn, edition)?;
+    migrate(conn, edition, &changes)?;
+    Ok(migrated)
 }
 
 /// Returns the office of the tables, which are made where none of them is there.
@@ -99,9 +100,11 @@ fn open_tables<S: Alter>(alloc: Global, conn: &mut Connection<S>) -> Result<Offi
     ensures begun { IsTrue conn.old.in_transaction → result ≡ Err StoreFault.Storage }
     ensures unlisted { conn.old.in_transaction ≡ false → (HasNone (state S.Store conn.old).now.schema → ⊥) → (AreListed (state S.Store conn.old).now.schema → ⊥) → result ≡ Err StoreFault.Damaged }
 {
+    // A fault, and no condition on the caller, who may not know what a connection has begun.
     if !conn.is_autocommit() {
         return Err(StoreFault::Storage);
     }
+    // Asked first: tables that are not there would be those of the first edition, and so be damaged.
     if has_none(conn.schema()) {
         return open_new(alloc, conn);
     }
@@ -170,12 +173,13 @@ impl<S: Alter> Store<S> {
         ensures cause { self.old.in_transaction ≡ false → (AreActedOn (state S.Store self.old).now.schema → ⊥) → IsCaused StoreFault.Storage (IsHinderedToSave changes.now) result (state S.Store self.old) (state S.Store self.new) }
 
         // A crash at any moment of the call.
-        ensures crash { Survives (state S.Store self.old) (state S.Store self.new) (IsLeft (Saves changes.now) (state S.Store self.old)) }
+        ensures crash { Survives (state S.Store self.old) (state S.Store self.new) (MayRecoverTo (Saves changes.now) (state S.Store self.old)) }
         ensures ended { self.old.in_transaction ≡ false → self.new.in_transaction ≡ false }
 
         // Where a transaction is open already.
         ensures begun { IsTrue self.old.in_transaction → result ≡ Err StoreFault.Storage }
     {
+        // Asked at each save, and not at the opening: such tables too stand for an office, and only a change would go on to others.
         if !are_left(self.conn.schema()) {
             return Err(StoreFault::Storage);
         }
@@ -186,6 +190,7 @@ impl<S: Alter> Store<S> {
     pub fn shows(&self)
         ensures live { IsLive (state S.Store self.now) }
     {
+        // Asked for its clause *live* alone.
         let _ = self.conn.schema();
     }
 

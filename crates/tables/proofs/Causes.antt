@@ -9,7 +9,6 @@ use Rattle.sqlite.specs.Order.{Row}
 use Rattle.tables.proofs.SelectAll.{IsSelect, no_returning}
 use Rattle.sqlite.specs.Clock.{timed}
 use Rattle.sqlite.specs.Effect.{Database}
-use Rattle.sqlite.specs.Steps.{FailsToCommit}
 use Rattle.sqlite.specs.State.{State, HasCleanDisk, Survives, Fails, HasCause as HasReason, IsStatement, IsUnchanged, IsRolledBack, IsNotRun, RunsAlone, RunsCommand, ExecutesIn, ExecutesInside, EndsScope, FailsToQuery, FailsToShow, Shown, ShowsRows, shows_rows, store_error}
 use Rattle.tables.specs.declared.fault.TableFault.TheVariants.{Storage}
 use Rattle.tables.specs.Faults.{fault_of}
@@ -155,11 +154,6 @@ stopped_before H old mid new up stops = record { why = go stops.why }
     go (inl shut) = inl shut
     go (inr (inl more)) = inr (inl (omega (arith, more, up)))
     go (inr (inr h)) = inr (inr h)
-
--- a commit in a transaction that failed
-pub uncommitted : (old new : State) (e : Error) → fault_of e ≡ Storage → old.in_transaction ≡ true → FailsToCommit old new e → IsStopped (λ _ _. ⊥) old new
-uncommitted old new e other inside (inl fails) = record { why = failed old new ⊥ e fails other }
-uncommitted old new e other inside (inr out) = absurd (let bad = sym out.1 ∙ inside in cc)
 
 both_tests : (b : Bool) (A B C D : Type 0) → (A → C) → (B → D) → MatchBool b A B → MatchBool b C D
 both_tests true A B C D f g h = f h

@@ -1,5 +1,5 @@
 -- What an INSERT of one row does to the rows of a table, and what its text means under any schema.
-use Rattle.std.proofs.Common.{◌≡◌, ℕ, ℤ, ◌+◌, ◌/◌, length, List, [], ◌∷◌, map, take, slice_get, slice_range, Option, Some, None, Ok, refl, sym, ap, subst, ◌∙◌, false, true, Bool, cond, not, ◌&&◌}
+use Rattle.std.proofs.Common.{◌≡◌, ℕ, ℤ, ◌+◌, ◌/◌, length, List, [], ◌∷◌, map, slice_get, slice_range, Option, Some, None, Ok, refl, sym, ap, subst, ◌∙◌, false, true, Bool, cond, not, ◌&&◌}
 use Rattle.std.specs.List.Sorted.{IsPermutation}
 use Rattle.std.proofs.lemmas.Bool.{and_parts}
 use Rattle.std.proofs.lemmas.List.Sorted.{IsPermutation-trans, IsPermutation-cons, IsPermutation-map}
@@ -20,9 +20,6 @@ use Rattle.sqlite.specs.Command.TheVariants.{Insert}
 use Rattle.sqlite.specs.Source.TheVariants.{Values}
 use Rattle.sqlite.specs.State.{State, mode_of, Executes, text_of}
 use Rattle.sqlite.specs.Rowids.TheVariants.{Chosen}
-use Rattle.sqlite_value.specs.Keys.{plain}
-use Rattle.sqlite_schema.specs.Rules.{agree}
-use Rattle.sqlite_rules.proofs.ListLemmas.{has_got}
 use Rattle.sqlite.specs.Compile.{compiled, first, timed, returning, command, small, with_command, on_table, planned, meaning, insert, insert_or_abort, new_rows, shows}
 use Rattle.sqlite.specs.Listing.{understood}
 use Rattle.sqlite_schema.specs.Names.{table_named}
@@ -39,10 +36,9 @@ use Rattle.sqlite.specs.Calls.{IsWrite}
 use Rattle.sqlite.specs.Command.{Command}
 use Rattle.tables.specs.Table.{Place, TableShape, Lists, cells, are_of, kind_in, made_at}
 use Rattle.tables.specs.Keyed.{IsKeyed}
-use Rattle.tables.specs.Writes.{Adds, begins_with}
+use Rattle.tables.specs.Writes.{Adds}
 use Rattle.tables.proofs.Places.{listed_along}
-use Rattle.tables.proofs.Understood.{Means, IsWriteText, runs_by, ends_in_write, on_table_writes, compiles_to_write, written_sound}
-use Rattle.tables.proofs.Apart.{HasKey, has_own_key, none_shown}
+use Rattle.tables.proofs.Understood.{Means, IsWriteText, runs_by, ends_in_write, on_table_writes, compiles_to_write}
 use Rattle.tables.proofs.InsertKeyed.{insert_does, insert_edit}
 use Rattle.tables.proofs.Puts.{put_row_permutes}
 use Rattle.tables.proofs.Rowids.{keyed_put}
@@ -92,12 +88,11 @@ compiled_is : (schema : Schema) (sql : List ℕ) (p : Parsed) (formats : List (L
 unfolding compiled planned meaning
 compiled_is schema sql p formats shown c parsed is_timed shows commands = rw (parsed, is_timed, shows, commands) refl
 
--- with these parameters the terms are one row, whose columns are given, and so is its key
+-- with these parameters the terms are one row, whose columns are given
 pub record IsGiven (made : Table) (params : Row) (terms : List Term) (width : ℕ) (given : Row) : Type 0 where
   pub source : Row
   pub one : value_rows params width (length terms / width) terms ≡ source ∷ []
   pub shown : (here : List Row) → cells made (with_rowid Chosen here (cast_row made source)) ≡ given
-  pub shares : (here : List Row) (r : Row) → agree plain made.primary r made.primary (with_rowid Chosen here (cast_row made source)) ≡ begins_with (take (length made.primary) given) (cells made r)
 
 -- The text of an INSERT of one row of terms, read under a table of this shape alone, and the row that it adds: that of its
 -- parameters, where those are of these kinds.
@@ -113,7 +108,6 @@ pub record IsInsert (sql : List ℕ) (shape : TableShape) (kinds : List Kind) : 
   pub laid : (schema : Schema) (place : Place) → new_rows schema (made_at shape place) (small p.names + small []) columns values ≡ Ok (Values terms width)
   pub whole : slice_range sql p.start p.end ≡ sql
   pub given : (place : Place) (row : Row) → are_of kinds row ≡ true → IsGiven (made_at shape place) row terms width row
-  pub keyed : (place : Place) → HasKey (made_at shape place)
 
 module _ (sql : List ℕ) (shape : TableShape) (kinds : List Kind) (it : IsInsert sql shape kinds) (schema : Schema) (at : ℕ) (place : Place)
     (has : Has schema shape.name at (made_at shape place)) where
@@ -151,8 +145,8 @@ module _ (sql : List ℕ) (shape : TableShape) (kinds : List Kind) (it : IsInser
   pub insert_writes : IsWriteText sql
   insert_writes = compiles_to_write sql it.p it.parsed (λ schema base k h. insert_command schema base k (rw (it.plain, it.statement) at h))
 
-  -- an INSERT that went through added the row of its parameters, where none had its key, and nothing else
-  pub inserts : (old new : State) (given : Row) (count : ℕ) → are_of kinds given ≡ true → Executes sql given old new (Ok count) → Adds (made_at shape) (take (length shape.primary) given) given old.now new.now
+  -- an INSERT that went through added the row of its parameters, and nothing else
+  pub inserts : (old new : State) (given : Row) (count : ℕ) → are_of kinds given ≡ true → Executes sql given old new (Ok count) → Adds (made_at shape) given old.now new.now
   inserts old new given count fits ran place rows stands =
       let is = it.given place given fits in
       let t : Table = made_at shape place in
@@ -172,7 +166,4 @@ module _ (sql : List ℕ) (shape : TableShape) (kinds : List Kind) (it : IsInser
           holds = subst (λ all. IsPermutation (given ∷ rows) (map (cells t) all)) (sym applies.rows) grown;
         },
         record { schema = done.0; others = applies.tables },
-        none_shown (cells t) (begins_with (take (length shape.primary) given)) here rows stands.holds (λ r h. sym (is.shares here r)
-            ∙ has_own_key new.now.schema new.now.trees t (written_sound sql given old new count insert_writes ran) (has_got new.now.schema.tables stands.listed.at t (subst (λ (s : Schema). slice_get s.tables stands.listed.at ≡ Some t) (sym done.0) stands.listed.there))
-            here row applies.rows free stands.keyed.ids (and_parts _ _ applies.keyed).0 (it.keyed place) r h),
       )

@@ -20,7 +20,7 @@ use Rattle.sqlite_value.specs.declared.keys.Order.{Order}
 use Rattle.sqlite_schema.specs.declared.schema.Column.{Column}
 use Rattle.sqlite_schema.specs.declared.schema.Reference.{Reference}
 use Rattle.sqlite_schema.specs.Rules.{kind_code}
-use Rattle.row_data.specs.declared.table.Table.{Table as Ours}
+use Rattle.row_model.specs.declared.table.Table.{Table as Ours}
 use Rattle.tables.specs.Table.{TableShape, shape_of, table_at, Place, all_referring, kind_in, required, referring, ascending, made_at}
 use Rattle.tables.specs.Inside.Layout.{is_nothing, is_binary, same_key, are_of_one, are_strict, is_alone, is_bare, is_required, is_referring, are_told, are_plain, is_untimed, has_shape, IsTableNamed, place_of}
 use Rattle.tables.specs.Layout.{IsListed}

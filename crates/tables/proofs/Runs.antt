@@ -1,6 +1,6 @@
 -- Statements one after the other, and what they leave alone.
 use Rattle.std.proofs.Common.{◌≡◌, ◌≢◌, ◌⊎◌, inl, inr, arith, ℕ, List, [], ◌∷◌, refl, sym, subst, ◌∙◌, IsTrue, true, false, Bool, map, ap, ◌<◌, ◌^◌, nat_lt, Option, Some, slice_get, Result, Ok, Err}
-use Rattle.std.specs.List.{AllByRecursion, AllZip}
+use Rattle.std.specs.List.{AllZip}
 use Rattle.std.proofs.lemmas.Bool.Decides.{Decides-ltb}
 use Rattle.sqlite_schema.specs.Names.{table_named}
 use Rattle.sqlite_catalog.specs.Listing.{IsSound, IsTableRow}
@@ -13,9 +13,9 @@ use Rattle.sqlite.specs.Effect.{Database}
 use Rattle.sqlite.specs.State.{State, HasCleanDisk, KeepsCommit, Executes, Survives}
 use Rattle.sqlite.proofs.StateLemmas.{survives_then}
 use Rattle.sqlite.specs.Tree.{Trees}
-use Rattle.sqlite_rules.proofs.ListLemmas.{all_has, all_from, has_got}
-use Rattle.row_data.specs.declared.table.Table.{Table as Ours}
-pub use Rattle.row_data.proofs.Tables.{same_table_is, same_table_self}
+use Rattle.sqlite_rules.proofs.ListLemmas.{all_has, has_got}
+use Rattle.row_model.specs.declared.table.Table.{Table as Ours}
+pub use Rattle.row_model.proofs.Tables.{same_table_is, same_table_self}
 use Rattle.tables.specs.Table.{Place, Rules, Lists, cells, table_at, same_table}
 use Rattle.std.proofs.lemmas.Bool.{cases_Bool}
 use Rattle.tables.specs.Keyed.{IsKeyed, Stands}
@@ -24,16 +24,6 @@ use Rattle.tables.specs.Steps.{Does, HasStepped, IsPart, Rests}
 use Rattle.tables.specs.Inside.Steps.{HasRun, Stays}
 use Rattle.tables.proofs.Places.{listed_along}
 use Rattle.tables.proofs.Understood.{IsWriteText, written_sound}
-
--- so do two that write it one after the other
-pub writes_then : (tree : ℕ) (a b c : Database) → WritesOnly tree a b → WritesOnly tree b c → WritesOnly tree a c
-writes_then tree a b c p q =
-    let later : AllByRecursion (λ (t : Table). t.tree ≢ tree → c.trees t.tree ≡ b.trees t.tree) a.schema.tables =
-    subst (λ (s : Schema). AllByRecursion (λ (t : Table). t.tree ≢ tree → c.trees t.tree ≡ b.trees t.tree) s.tables) p.schema q.others in
-    record {
-      schema = q.schema ∙ p.schema;
-      others = all_from _ a.schema.tables (λ t h apart. all_has _ a.schema.tables t later h apart ∙ all_has _ a.schema.tables t p.others h apart);
-    }
 
 -- a table stands as before where it is listed as before, with the rows of its tree
 pub stands_kept : (table : Place → Table) (place : Place) (same : (table place).tree ≡ place.tree) (rows : List Row) (old new : Database) → Lists new.schema (table place)

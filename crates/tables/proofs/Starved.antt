@@ -1,22 +1,14 @@
 -- A call that returns out of memory ended on a statement that returned it.
-use Rattle.std.proofs.Common.{◌≡◌, inl, inr, List, ℕ, refl, ◌∙◌}
+use Rattle.std.proofs.Common.{◌≡◌, List, ℕ, refl, ◌∙◌}
 use Rattle.sqlite.specs.Order.{Row}
 use Rattle.sqlite.specs.State.{State}
 use Rattle.tables.specs.declared.fault.TableFault.TheVariants.{Memory}
-use Rattle.row_data.specs.declared.table.Table.{Table}
-use Rattle.tables.specs.Table.{sql_of}
-use Rattle.tables.specs.Causes.{FailsToPut, FailsToWrite, LacksMemory}
+use Rattle.tables.specs.Causes.{FailsToWrite, LacksMemory}
 use Rattle.tables.proofs.Causes.{inside_so, moment_of}
 
 -- a statement
 pub lacks : (sql : List ℕ) (params : Row) (old new : State) → FailsToWrite sql params Memory old new → LacksMemory old new
 lacks sql params old new it = record { between = moment_of old; kept = refl; sql = sql; params = params; fails = (it.0, inside_so old new sql params it.0 it.1, it.2) }
-
--- a put
-pub lacks_put : (table : Table) (row : Row) (old new : State) → FailsToPut table row Memory old new → LacksMemory old new
-lacks_put table row old new (inl it) = lacks (sql_of table).update row old new it
-lacks_put table row old new (inr (inl it)) = record { between = it.between; kept = it.kept; sql = (sql_of table).insert; params = row; fails = it.fails }
-lacks_put table row old new (inr (inr it)) = absurd (let bad = it.1 in cc)
 
 -- a call after others that committed nothing
 pub lacks_after : (old mid new : State) → mid.committed ≡ old.committed → LacksMemory mid new → LacksMemory old new

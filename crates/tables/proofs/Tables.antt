@@ -1,5 +1,5 @@
 -- The texts of each table are read and resolved, by computing: the parser and the resolver run on the literal texts here, and nowhere else.
-use Rattle.std.proofs.Common.{◌≡◌, ℕ, ℤ, List, [], ◌∷◌, Bool, true, false, inl, inr, refl}
+use Rattle.std.proofs.Common.{◌≡◌, ℕ, ℤ, List, [], ◌∷◌, Bool, true, false, refl}
 use Rattle.std.proofs.lemmas.Bool.{and_parts}
 use Rattle.sqlite_tied.specs.Compute.{everything}
 use Rattle.sqlite.specs.Listing.{listing_schema}
@@ -8,13 +8,12 @@ use Rattle.sqlite.specs.Ops.{unary}
 use Rattle.sqlite.specs.Term.{Term, col}
 use Rattle.sqlite.specs.declared.types.Value.TheVariants.{Int, Text as Words}
 use Rattle.sqlite_value.specs.Keys.{first_key}
-use Rattle.row_data.specs.declared.table.Table.{Table}
-use Rattle.row_data.specs.declared.table.Table.TheVariants.{Edition, Supervisor, Project, Student, Round, OldChoice, OldPlacement, Import, RoundAim, Choice, Placement}
+use Rattle.row_model.specs.declared.table.Table.{Table}
+use Rattle.row_model.specs.declared.table.Table.TheVariants.{Edition, Supervisor, Project, Student, Round, OldChoice, OldPlacement, Import, RoundAim, Choice, Placement}
 use Rattle.tables.specs.Table.{Place, cells, choices, kinds_of, made_at, shape_of, sharing, table_at}
 use Rattle.tables.specs.Writes.{begins_with, goes_on}
 use Rattle.tables.specs.declared.table.Group.{Group}
 use Rattle.tables.specs.declared.table.Group.TheVariants as group
-use Rattle.tables.proofs.Apart.{HasKey}
 use Rattle.tables.proofs.Texts.{Anywhere, AreFound, AreRead, AreTested, Each, Gives, IsShown, Removal, Removes, Texts, either}
 use Rattle.tables.proofs.Forms.{finds_of, values_of}
 use Rattle.tables.proofs.InsertRow.{cast_bytes, cast_null, cast_int}
@@ -72,29 +71,21 @@ are_found _ at = λ key r. refl
 -- their rows are given, found and set
 are_given : (table : Table) (at : Place) → Each (kinds_of table) (Gives table at)
 unfolding everything listing_schema first_key
-are_given Edition at = λ id number. record { one = refl; added = λ here. rw (cast_int id, cast_int number) refl; shares = λ here r. rw (cast_int id) refl; finds = λ r. refl; set = λ r int same. rw (rowid_is r id int (and_parts _ _ same).0, cast_int id, cast_int number) refl }
-are_given Supervisor at = λ code label quota. record { one = refl; added = λ here. rw (cast_null, cast_int quota) refl; shares = λ here r. rw cast_null refl; finds = λ r. refl; set = λ r int same. rw (cast_int quota) refl }
-are_given Project at = λ code label supervisor quota. record { one = refl; added = λ here. rw (cast_null, cast_int quota) refl; shares = λ here r. rw cast_null refl; finds = λ r. refl; set = λ r int same. rw (cast_int quota) refl }
-are_given Student at = λ code label. record { one = refl; added = λ here. rw cast_null refl; shares = λ here r. rw cast_null refl; finds = λ r. refl; set = λ r int same. refl }
-are_given Round at = λ number is_open. record { one = refl; added = λ here. rw (cast_int number, cast_int is_open) refl; shares = λ here r. rw (cast_int number) refl; finds = λ r. refl; set = λ r int same. rw (rowid_is r number int (and_parts _ _ same).0, cast_int number, cast_int is_open) refl }
-are_given OldChoice at = λ round student place project. record { one = refl; added = λ here. rw (cast_null, cast_int round, cast_int place) refl; shares = λ here r. rw (cast_null, cast_int round, cast_int place) refl; finds = choice_found (shape_of OldChoice).name at.rules.is_strict at (showing (values_of (shape_of OldChoice))) round student place (Words project ∷ []); set = λ r int same. rw (cast_int round, cast_int place) refl }
-are_given OldPlacement at = λ student round project rank. record { one = refl; added = λ here. rw (cast_null, cast_int round, cast_int rank) refl; shares = λ here r. rw cast_null refl; finds = λ r. refl; set = λ r int same. rw (cast_int round, cast_int rank) refl }
-are_given Import at = λ id kind bytes rows. record { one = refl; added = λ here. rw (cast_null, cast_bytes at.rules.is_strict bytes, cast_int rows) refl; shares = λ here r. rw cast_null refl; finds = λ r. refl; set = λ r int same. rw (cast_bytes at.rules.is_strict bytes, cast_int rows) refl }
-are_given RoundAim at = λ round generous. record { one = refl; added = λ here. rw (cast_int round, cast_int generous) refl; shares = λ here r. rw (cast_int round) refl; finds = λ r. refl; set = λ r int same. rw (rowid_is r round int (and_parts _ _ same).0, cast_int round, cast_int generous) refl }
-are_given Choice at = λ round student place project. record { one = refl; added = λ here. rw (cast_null, cast_int round, cast_int place) refl; shares = λ here r. rw (cast_null, cast_int round, cast_int place) refl; finds = choice_found (shape_of Choice).name at.rules.is_strict at (showing (values_of (shape_of Choice))) round student place (Words project ∷ []); set = λ r int same. rw (cast_int round, cast_int place) refl }
-are_given Placement at = λ student round project rank. record { one = refl; added = λ here. rw (cast_null, cast_int round, cast_int rank) refl; shares = λ here r. rw cast_null refl; finds = λ r. refl; set = λ r int same. rw (cast_int round, cast_int rank) refl }
-
--- and they have keys
-are_keyed : (table : Table) (at : Place) → HasKey (table_at table at)
-unfolding everything listing_schema first_key
-are_keyed Edition at = inl refl
-are_keyed Round at = inl refl
-are_keyed RoundAim at = inl refl
-are_keyed _ at = inr (0, refl, refl)
+are_given Edition at = λ id number. record { one = refl; added = λ here. rw (cast_int id, cast_int number) refl; finds = λ r. refl; set = λ r int same. rw (rowid_is r id int (and_parts _ _ same).0, cast_int id, cast_int number) refl }
+are_given Supervisor at = λ code label quota. record { one = refl; added = λ here. rw (cast_null, cast_int quota) refl; finds = λ r. refl; set = λ r int same. rw (cast_int quota) refl }
+are_given Project at = λ code label supervisor quota. record { one = refl; added = λ here. rw (cast_null, cast_int quota) refl; finds = λ r. refl; set = λ r int same. rw (cast_int quota) refl }
+are_given Student at = λ code label. record { one = refl; added = λ here. rw cast_null refl; finds = λ r. refl; set = λ r int same. refl }
+are_given Round at = λ number is_open. record { one = refl; added = λ here. rw (cast_int number, cast_int is_open) refl; finds = λ r. refl; set = λ r int same. rw (rowid_is r number int (and_parts _ _ same).0, cast_int number, cast_int is_open) refl }
+are_given OldChoice at = λ round student place project. record { one = refl; added = λ here. rw (cast_null, cast_int round, cast_int place) refl; finds = choice_found (shape_of OldChoice).name at.rules.is_strict at (showing (values_of (shape_of OldChoice))) round student place (Words project ∷ []); set = λ r int same. rw (cast_int round, cast_int place) refl }
+are_given OldPlacement at = λ student round project rank. record { one = refl; added = λ here. rw (cast_null, cast_int round, cast_int rank) refl; finds = λ r. refl; set = λ r int same. rw (cast_int round, cast_int rank) refl }
+are_given Import at = λ id kind bytes rows. record { one = refl; added = λ here. rw (cast_null, cast_bytes at.rules.is_strict bytes, cast_int rows) refl; finds = λ r. refl; set = λ r int same. rw (cast_bytes at.rules.is_strict bytes, cast_int rows) refl }
+are_given RoundAim at = λ round generous. record { one = refl; added = λ here. rw (cast_int round, cast_int generous) refl; finds = λ r. refl; set = λ r int same. rw (rowid_is r round int (and_parts _ _ same).0, cast_int round, cast_int generous) refl }
+are_given Choice at = λ round student place project. record { one = refl; added = λ here. rw (cast_null, cast_int round, cast_int place) refl; finds = choice_found (shape_of Choice).name at.rules.is_strict at (showing (values_of (shape_of Choice))) round student place (Words project ∷ []); set = λ r int same. rw (cast_int round, cast_int place) refl }
+are_given Placement at = λ student round project rank. record { one = refl; added = λ here. rw (cast_null, cast_int round, cast_int rank) refl; finds = λ r. refl; set = λ r int same. rw (cast_int round, cast_int rank) refl }
 
 -- what every table gives
 pub texts : (table : Table) → Texts table
-texts table = record { read = are_read table; tested = are_tested table; all = are_shown table; keys = are_found table; rows = are_given table; keyed = are_keyed table }
+texts table = record { read = are_read table; tested = are_tested table; all = are_shown table; keys = are_found table; rows = are_given table }
 
 -- and what the text gives that takes a group of rows away
 pub group_text : (rows : Group) → let s = sharing rows in Removal s.table s.removal s.before s.shared

@@ -26,8 +26,6 @@ use Rattle.sqlite_resolve.specs.Select.{outermost}
 use Rattle.sqlite.specs.Rows.{shown}
 use Rattle.sqlite_catalog.proofs.StepLemmas.{same_itself}
 use Rattle.sqlite_schema.specs.Names.{table_named}
-use Rattle.sqlite_schema.specs.Rules.{agree}
-use Rattle.sqlite_value.specs.Keys.{plain as in_order}
 use Rattle.sqlite_trees.specs.View.{is_int}
 use Rattle.sqlite_sql.specs.Term.{eval_all}
 use Rattle.sqlite_ast.specs.declared.TableBody.{TableBody}
@@ -37,12 +35,11 @@ use Rattle.sqlite_resolve.specs.Write.{updated, deleted}
 use Rattle.sqlite_resolve.specs.declared.scope.Output.{Output}
 use Rattle.sqlite_resolve.specs.declared.error.CompileError.TheVariants.{NoSuchTable}
 use Rattle.sqlite_tied.specs.Compute.{everything}
-use Rattle.row_data.specs.declared.table.Table.{Table}
+use Rattle.row_model.specs.declared.table.Table.{Table}
 use Rattle.tables.specs.Table.{TableShape, Sql, Place, Lists, rules_of, shape_of, sql_of, table_at, kinds_of, are_of, cells}
 use Rattle.tables.specs.Writes.{begins_with, goes_on}
 use Rattle.tables.proofs.CreateTable.{IsCreate, made_command}
 use Rattle.tables.proofs.InsertRow.{IsInsert}
-use Rattle.tables.proofs.Apart.{HasKey}
 use Rattle.tables.proofs.QueryRows.{hit}
 use Rattle.tables.proofs.SelectAll.{finding}
 use Rattle.tables.proofs.DeleteRows.{IsDelete}
@@ -81,12 +78,10 @@ module _ (table : Table) where
   abbrev said : Sql
   said = sql_of table
 
-  -- a row that is given is added as it is, distinguished and found by its key, and shown where it is set
+  -- a row that is given is added as it is, found by its key, and shown where it is set
   pub record Gives (place : Place) (row : Row) : Type 0 where
     pub one : value_rows row (suc (width shape)) (length (terms_of shape) / suc (width shape)) (terms_of shape) ≡ laid_out Null shape.key row ∷ []
     pub added : (here : List Row) → cells (table_at table place) (with_rowid Chosen here (cast_row (table_at table place) (laid_out Null shape.key row))) ≡ row
-    pub shares : (here : List Row) (r : Row)
-        → agree in_order shape.primary r shape.primary (with_rowid Chosen here (cast_row (table_at table place) (laid_out Null shape.key row))) ≡ begins_with (take (length shape.primary) row) (cells (table_at table place) r)
     pub finds : (r : Row) → hit (finds_of shape place.rules.is_strict 0 (length shape.primary)) (showing (values_of shape)) row r ≡ begins_with (take (length shape.primary) row) (cells (table_at table place) r)
     pub set : (r : Row) → is_int (rowid r) ≡ true → hit (finds_of shape place.rules.is_strict 0 (length shape.primary)) (showing (values_of shape)) row r ≡ true
         → cells (table_at table place) (cast_row (table_at table place) (rowid r ∷ eval_all (values_of shape) (row ∷ r ∷ []))) ≡ row
@@ -136,7 +131,6 @@ module _ (table : Table) where
     pub all : IsShown
     pub keys : AreFound
     pub rows : (place : Place) → Each (kinds_of table) (Gives place)
-    pub keyed : (place : Place) → HasKey (table_at table place)
 
   -- What a text gives that takes rows away by this many columns after this many others: how it is read and resolved, and which rows a
   -- key finds.
@@ -197,8 +191,7 @@ module _ (table : Table) (it : Texts table) where
     whole = read_whole (said table).insert;
     given = λ place row is.
         let gives = by_kinds (kinds_of table) (Gives table place) (it.rows place) row is in
-        record { source = laid_out Null told.key row; one = gives.one; shown = gives.added; shares = gives.shares };
-    keyed = it.keyed;
+        record { source = laid_out Null told.key row; one = gives.one; shown = gives.added };
   }
 
   -- a text that takes rows away

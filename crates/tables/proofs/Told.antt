@@ -1,44 +1,36 @@
 -- What the statements of each table do.
-use Rattle.std.proofs.Common.{◌≡◌, ◌<◌, ◌≤◌, inl, inr, sym, ◌∙◌, ℕ, List, [], refl, subst, length, take, Result, Ok, Err, IfOk, IfErr, OnOk, Vec}
+use Rattle.std.proofs.Common.{◌≡◌, inl, inr, sym, ◌∙◌, ℕ, List, [], subst, length, take, Result, Ok, Err, IfOk, Vec}
 use Rattle.std.specs.declared.alloc.Global.{Global}
 use Rattle.sqlite.specs.Order.{Row}
-use Rattle.sqlite.specs.State.{State, HasCleanDisk, Survives, Shown, CommitsShowing}
+use Rattle.sqlite.specs.State.{State, Executes, Shown, CommitsShowing}
 use Rattle.sqlite.specs.Tree.{Trees}
 use Rattle.tables.specs.declared.fault.TableFault.{TableFault}
 use Rattle.tables.specs.Keyed.{IsKeyed}
-use Rattle.row_data.specs.declared.table.Table.{Table}
+use Rattle.row_model.specs.declared.table.Table.{Table}
 use Rattle.tables.specs.Table.{Sharing, Sql, rules_of, shape_of, sharing, sql_of, table_at, kinds_of, kinds_shared, key_in, IsRowOf, IsKeyOf, IsNamed}
 use Rattle.tables.specs.declared.table.Group.{Group}
-use Rattle.tables.specs.Writes.{Creates, Adds, Removes, Replaces, begins_with, goes_on}
+use Rattle.tables.specs.Writes.{Creates, Enters, Removes, begins_with, entering, goes_on}
+use Rattle.tables.specs.declared.statements.Entering.{Entering}
+use Rattle.tables.specs.declared.statements.Entering.TheVariants.{InPlace, New}
 use Rattle.tables.specs.Inside.Steps.{HasRun, RanQuery}
 use Rattle.tables.specs.Steps.{HasStepped, Shows, Rests}
 use Rattle.tables.proofs.CreateTable.{create_makes, create_writes}
 use Rattle.tables.proofs.InsertRow.{inserts, insert_writes}
-use Rattle.tables.proofs.UpdateRow.{update_replaces, update_writes}
+use Rattle.tables.proofs.UpdateRow.{update_puts, update_writes}
 use Rattle.tables.proofs.DeleteRows.{delete_removes, delete_writes}
 use Rattle.tables.proofs.SelectAll.{read_shows, select_commits, select_rests}
 use Rattle.tables.proofs.Runs.{stepped_by}
-use Rattle.tables.proofs.Understood.{written}
+use Rattle.tables.proofs.Understood.{IsWriteText, written}
 use Rattle.tables.proofs.Texts.{create_is, insert_is, update_is, delete_is, select_is, removal_is}
 use Rattle.tables.proofs.Tables.{group_text, texts}
-use Rattle.tables.proofs.Causes.{inside_so, moment_of, stopped_after, stopped_as, unordered, unread}
-use Rattle.tables.specs.Causes.{FailsToPut, FailsToRead, FailsToWrite, IsHindered, IsHinderedToPut, IsStopped, IsUnread, ShowsInOrder, Went, WentPutting, WentThrough}
+use Rattle.tables.proofs.Causes.{unordered, unread}
+use Rattle.tables.specs.Causes.{FailsToRead, IsStopped, IsUnread, ShowsInOrder, Went}
 use Rattle.tables.specs.declared.fault.TableFault.TheVariants.{Storage}
 
 module _ (table : Table) (told : Sql) (is : told ≡ sql_of table) (old new : State) (count : ℕ) where
   -- the table was made
   pub created : HasRun told.create [] count old new → HasStepped (Creates (table_at table) (rules_of table) []) old new
   created run = stepped_by _ _ _ _ _ _ (create_writes (sql_of table).create (shape_of table) (rules_of table) (create_is table (texts table))) (create_makes (sql_of table).create (shape_of table) (rules_of table) (create_is table (texts table)) old new count) (subst (λ (sql : Sql). HasRun sql.create [] count old new) is run)
-
-  -- a row was added, where none had its key
-  pub inserted : (row : Row) → IsRowOf table row → HasRun told.insert row count old new → HasStepped (Adds (table_at table) (key_in table row) row) old new
-  inserted row fits run = stepped_by _ _ _ _ _ _ (insert_writes (sql_of table).insert (shape_of table) (kinds_of table) (insert_is table (texts table))) (inserts (sql_of table).insert (shape_of table) (kinds_of table) (insert_is table (texts table)) old new row count fits) (subst (λ (sql : Sql). HasRun sql.insert row count old new) is run)
-
-  -- rows were replaced
-  pub replaced : (row : Row) → IsRowOf table row → HasRun told.update row count old new → HasStepped (Replaces (table_at table) (key_in table row) row count) old new
-  replaced row fits run =
-      stepped_by _ _ _ _ _ _ (update_writes (sql_of table).update (shape_of table) (kinds_of table) (length (shape_of table).primary) (update_is table (texts table))) (update_replaces (sql_of table).update (shape_of table) (kinds_of table) (length (shape_of table).primary) (update_is table (texts table)) old new row fits count)
-      (subst (λ (sql : Sql). HasRun sql.update row count old new) is run)
 
   -- rows were taken away
   pub removed : (key : Row) → IsKeyOf table key → HasRun told.delete key count old new → HasStepped (Removes (table_at table) (begins_with key)) old new
@@ -52,21 +44,27 @@ module _ (table : Table) (told : Sql) (is : told ≡ sql_of table) (old new : St
       let writes = create_writes (sql_of table).create (shape_of table) (rules_of table) (create_is table (texts table)) in
       (count, written _ _ old new count writes (subst (λ (sql : Sql). HasRun sql.create [] count old new) is run).ran)
 
-  pub went_inserting : (row : Row) → HasRun told.insert row count old new → Went (sql_of table).insert row old.step_limit old.now new.now
-  went_inserting row run =
-      let writes = insert_writes (sql_of table).insert (shape_of table) (kinds_of table) (insert_is table (texts table)) in
-      (count, written _ _ old new count writes (subst (λ (sql : Sql). HasRun sql.insert row count old new) is run).ran)
-
-  pub went_updating : (row : Row) → HasRun told.update row count old new → WentThrough (sql_of table).update row count old.step_limit old.now new.now
-  went_updating row run =
-      let writes = update_writes (sql_of table).update (shape_of table) (kinds_of table) (length (shape_of table).primary) (update_is table (texts table)) in
-      written _ _ old new count writes (subst (λ (sql : Sql). HasRun sql.update row count old new) is run).ran
-
   pub went_deleting : (key : Row) → HasRun told.delete key count old new → Went (sql_of table).delete key old.step_limit old.now new.now
   went_deleting key run =
       let kinds = take (shape_of table).named (kinds_of table) in
       let writes = delete_writes (sql_of table).delete (shape_of table) kinds begins_with (delete_is table (texts table)) in
       (count, written _ _ old new count writes (subst (λ (sql : Sql). HasRun sql.delete key count old new) is run).ran)
+
+-- a row was brought into its table
+module _ (table : Table) (row : Row) (fits : IsRowOf table row) (old new : State) (count : ℕ) where
+  entry_writes : (way : Entering) → IsWriteText (entering way (sql_of table))
+  entry_writes InPlace = update_writes (sql_of table).update (shape_of table) (kinds_of table) (length (shape_of table).primary) (update_is table (texts table))
+  entry_writes New = insert_writes (sql_of table).insert (shape_of table) (kinds_of table) (insert_is table (texts table))
+
+  enters : (way : Entering) → Executes (entering way (sql_of table)) row old new (Ok count) → Enters way (table_at table) (key_in table row) row old.now new.now
+  enters InPlace = update_puts (sql_of table).update (shape_of table) (kinds_of table) (length (shape_of table).primary) (update_is table (texts table)) old new row fits count
+  enters New = inserts (sql_of table).insert (shape_of table) (kinds_of table) (insert_is table (texts table)) old new row count fits
+
+  pub entered : (way : Entering) (text : List ℕ) → text ≡ entering way (sql_of table) → HasRun text row count old new → HasStepped (Enters way (table_at table) (key_in table row) row) old new
+  entered way text is run = stepped_by (Enters way (table_at table) (key_in table row) row) (entering way (sql_of table)) row count old new (entry_writes way) (enters way) (subst (λ sql. HasRun sql row count old new) is run)
+
+  pub went_entering : (way : Entering) (text : List ℕ) → text ≡ entering way (sql_of table) → HasRun text row count old new → Went (entering way (sql_of table)) row old.step_limit old.now new.now
+  went_entering way text is run = (count, written _ _ old new count (entry_writes way) (subst (λ sql. HasRun sql row count old new) is run).ran)
 
 -- a group of rows was taken away
 module _ (rows : Group) (text : List ℕ) (is : text ≡ (sharing rows).removal) (old new : State) (count : ℕ) (key : Row) (fits : IsNamed rows key) where
@@ -111,53 +109,3 @@ module _ (table : Table) (told : Sql) (is : told ≡ sql_of table) (old new : St
       go : FailsToRead (sql_of table).select fault old new → IsStopped (IsUnread (sql_of table).select) old new
       go (inl (e, fails, is)) = unread (sql_of table).select (shape_of table) (select_is table (texts table)) old new e (sym is ∙ storage) fails
       go (inr (rows, shown, mixed, is)) = unordered (sql_of table).select (shape_of table) (select_is table (texts table)) old new rows mixed shown
-
--- what holds where a call answers brings another
-pub on_ok : {A E : Type 0} (r : Result A E) (P Q : Type 0) → (P → Q) → OnOk r P → OnOk r Q
-on_ok (Ok a) P Q f p = f p
-on_ok (Err e) P Q f p = tt
-
--- why a row cannot be put
-module _ (table : Table) (row : Row) (old new : State) where
-  abbrev Unput : Type 0
-  Unput = IsStopped (IsHinderedToPut table row) old new
-
-  pub unreplaced : IsStopped (IsHindered (sql_of table).update row) old new → Unput
-  unreplaced = stopped_as _ _ old new (λ h. inl h)
-
-  pub unadded : (mid : State) (count : ℕ) → count ≡ 0 → Survives old mid (λ _. ⊥) → HasCleanDisk mid → mid.faults ≤ new.faults
-      → WentThrough (sql_of table).update row count old.step_limit old.now mid.now → IsStopped (IsHindered (sql_of table).insert row) mid new → Unput
-  unadded mid count zero survives clean up did =
-      let none = subst (λ n. WentThrough (sql_of table).update row n old.step_limit old.now mid.now) zero did in
-      stopped_after _ _ old mid new survives clean up (λ h. inr (inl (record { between = mid.now; none = none; hindered = h })))
-
-  -- a put went through in one statement, or in two
-  pub went_once : (count : ℕ) → count ≡ 1 → WentThrough (sql_of table).update row count old.step_limit old.now new.now
-      → WentPutting table row old.step_limit old.now new.now
-  went_once count one did = inl (subst (λ n. WentThrough (sql_of table).update row n old.step_limit old.now new.now) one did)
-
-  pub went_twice : (mid : State) (count : ℕ) → count ≡ 0 → mid.step_limit ≡ old.step_limit
-      → WentThrough (sql_of table).update row count old.step_limit old.now mid.now → Went (sql_of table).insert row mid.step_limit mid.now new.now
-      → WentPutting table row old.step_limit old.now new.now
-  went_twice mid count zero limit did then =
-      let none = subst (λ n. WentThrough (sql_of table).update row n old.step_limit old.now mid.now) zero did in
-      inr (record { between = mid.now; none = none; added = subst (λ l. Went (sql_of table).insert row l mid.now new.now) limit then })
-
-  pub several : (count : ℕ) → 1 < count → HasStepped (Replaces (table_at table) (key_in table row) row count) old new → Unput
-  several count many did = record { why = inr (inr (inr (inr (record { count = count; several = many; after = new.now; replaced = did.step })))) }
-
-  -- which fault is returned of the row that is added, where there was none with its key
-  pub told_adding : {A : Type 0} (mid : State) (count : ℕ) (r : Result A TableFault) → count ≡ 0 → HasStepped (Replaces (table_at table) (key_in table row) row count) old mid
-      → IfErr r (λ fault. FailsToWrite (sql_of table).insert row fault mid new) → IfErr r (λ fault. FailsToPut table row fault old new)
-  told_adding mid count (Ok a) zero did told = told
-  told_adding mid count (Err fault) zero did told =
-      inr (inl (record {
-        between = moment_of mid;
-        none = subst (λ n. Replaces (table_at table) (key_in table row) row n old.now mid.now) zero did.step;
-        kept = did.shown.committed_is;
-        fails = (told.0, inside_so mid new _ _ told.0 told.1, told.2);
-      }))
-
-  -- and where several had it
-  pub told_several : (count : ℕ) → 1 < count → HasStepped (Replaces (table_at table) (key_in table row) row count) old new → FailsToPut table row Storage old new
-  told_several count many did = inr (inr (record { count = count; several = many; after = new.now; replaced = did.step }, refl))

@@ -1,9 +1,9 @@
 -- UPDATE by key, which sets every column but the rowid.
-use Rattle.std.proofs.Common.{◌≡◌, inl, inr, ℕ, List, [], ◌∷◌, ◌++◌, slice_get, Option, Some, None, Ok, refl, sym, ap, subst, subst₂, ◌∙◌, true, length, unwrap_or, map, filter, take, drop, not, Bool}
+use Rattle.std.proofs.Common.{◌≡◌, inl, inr, ℕ, List, [], ◌∷◌, ◌++◌, slice_get, Option, Some, None, Ok, refl, sym, ap, subst, subst₂, ◌∙◌, true, false, map, filter, take, drop, not, cond, Bool}
 use Rattle.std.specs.List.Sorted.{IsPermutation}
-use Rattle.std.proofs.lemmas.List.{map-append, length-map}
-use Rattle.std.proofs.lemmas.List.Sorted.{IsPermutation-map, IsPermutation-trans, IsPermutation-append_left, IsPermutation-append_right, length_permutation}
-use Rattle.sqlite_keyed.proofs.ListLemmas.{IsPermutation-filter, map-map}
+use Rattle.std.proofs.lemmas.List.{map-append}
+use Rattle.std.proofs.lemmas.List.Sorted.{IsPermutation-refl, IsPermutation-cons, IsPermutation-map, IsPermutation-middle, IsPermutation-sym, IsPermutation-trans, IsPermutation-append_left}
+use Rattle.sqlite_keyed.proofs.ListLemmas.{map-map}
 use Rattle.sqlite.specs.Schema.{Schema}
 use Rattle.sqlite.specs.Table.{Table}
 use Rattle.sqlite.specs.Kind.{Kind}
@@ -32,11 +32,11 @@ use Rattle.sqlite.proofs.Callers.{one_step}
 use Rattle.tables.specs.Inside.Keyed.{id_of}
 use Rattle.tables.specs.Keyed.{IsKeyed}
 use Rattle.tables.specs.Table.{Place, TableShape, cells, are_of, made_at}
-use Rattle.tables.specs.Writes.{begins_with, without, Replaces}
+use Rattle.tables.specs.Writes.{begins_with, with_row, Puts}
 use Rattle.tables.proofs.Places.{listed_along}
 use Rattle.tables.proofs.InsertKeyed.{went, same_value}
 use Rattle.tables.proofs.Understood.{IsWriteText, runs_by}
-use Rattle.tables.proofs.RowidsOut.{taken_out, still_keyed, map_filter, kept_has, passes}
+use Rattle.tables.proofs.RowidsOut.{taken_out, still_keyed, kept_has, passes}
 use Rattle.tables.proofs.Rowids.{put_all_permutes, keyed_put_all}
 use Rattle.tables.proofs.InsertRow.{Has as Finds, has_listed}
 use Rattle.tables.proofs.QueryRows.{found_program, IsDrafted, drafted_writes, drafted_means, hit, found}
@@ -64,30 +64,33 @@ pub update_does : (limit : Option ℕ) (mode : Mode) (params : Row) (db after : 
     → slice_get db.schema.tables at ≡ Some table → ((olds news : List Row) → works db.schema mode.keys 0 table.tree olds news ≡ [])
     → Does limit mode params db text None (Update at q) (Ok (tally, after))
     → (after.schema ≡ db.schema) × (rows : List Row) × Answers db q params rows × Applies db.schema mode.keys db.trees (edit_of db.trees table (ids_of rows) Given 1 rows) after.trees
-    × (tally.rows ≡ Some (length (numbered Given (without_all (db.trees table.tree) (ids_of rows)) (map (λ s. cast_row table (drop 1 s)) rows))))
 update_does limit mode params db after text at table q tally there inert h =
     let done = went (rw there at h) in
-    let same = same_value (went (went done.2).2).2 in
-    let now = ap (λ (p : Tally × Database). p.1) same in
+    let now = ap (λ (p : Tally × Database). p.1) (same_value (went (went done.2).2).2) in
     let given = went done.1 in
     let edited = went given.2 in
     let edit = edit_of db.trees table (ids_of given.0) Given 1 given.0 in
     let trees : done.0.trees ≡ edited.0 = ap (λ (it : Written). it.trees) (same_value edited.2) in
-    let made : Applies db.schema mode.keys db.trees edit edited.0 = one_step db.schema mode.keys db.trees edited.0 edit (inert _ _) edited.1 in
-    let count : tally.rows ≡ Some (length done.0.rows) = ap (λ (p : Tally × Database). p.0.rows) same in (
+    let made : Applies db.schema mode.keys db.trees edit edited.0 = one_step db.schema mode.keys db.trees edited.0 edit (inert _ _) edited.1 in (
       ap (λ (d : Database). d.schema) now,
       given.0,
       given.1,
       subst (Applies db.schema mode.keys db.trees edit) (sym (ap (λ (d : Database). d.trees) now ∙ trees)) made,
-      count ∙ ap (λ (it : Written). Some (length it.rows)) (same_value edited.2),
     )
 
 numbered_given : (news left : List Row) → numbered Given left news ≡ news
 numbered_given [] left = refl
 numbered_given (n ∷ news) left = ap (λ more. n ∷ more) (numbered_given news (put_row n left))
 
-beside : (a b c d : List Row) → IsPermutation a b → IsPermutation c d → IsPermutation (a ++ c) (b ++ d)
-beside a b c d p q = IsPermutation-trans _ _ _ (IsPermutation-append_left c a b p) (IsPermutation-append_right b c d q)
+-- what a test makes of rows: of those that pass one thing, next to another of the others
+halves : {X Y : Type 0} (p : X → Bool) (f g : X → Y) (xs : List X) → IsPermutation (map (λ x. cond (p x) (f x) (g x)) xs) (map f (filter p xs) ++ map g (filter (λ x. not (p x)) xs))
+halves p f g [] = IsPermutation-refl []
+halves p f g (x ∷ xs) = by (p x) _ (filter p xs) (filter (λ x. not (p x)) xs) (halves p f g xs)
+  where
+    by : (b : Bool) (ys : List _) (passing others : List _) → IsPermutation ys (map f passing ++ map g others)
+        → IsPermutation (cond b (f x) (g x) ∷ ys) (map f (cond b (x ∷ passing) passing) ++ map g (cond (not b) (x ∷ others) others))
+    by true ys passing others h = IsPermutation-cons (f x) _ _ h
+    by false ys passing others h = IsPermutation-trans _ _ _ (IsPermutation-cons (g x) _ _ h) (IsPermutation-sym _ _ (IsPermutation-middle (map f passing) (g x) (map g others)))
 
 abbrev remade : Table → Row → Row
 remade t s = cast_row t (drop 1 s)
@@ -118,9 +121,6 @@ module _ (t : Table) (find : Row → Bool) (values : List Term) (row key : Row) 
   pub left_keyed : IsKeyed left
   left_keyed = subst IsKeyed (sym left_is) (still_keyed (λ r. not (find r)) here keyed)
 
-  left_shown : map (cells t) left ≡ without key (map (cells t) here)
-  left_shown = ap (map (cells t)) left_is ∙ map_filter (cells t) (λ r. not (find r)) (λ v. not (begins_with key v)) (λ r. ap not (hits r)) here
-
   each_set : (r : Row) → Has (filter find here) r → cells t (remade t (source r)) ≡ row
   each_set r h = set r (all_has _ here r keyed.ids (kept_has find here r h)) (passes find here r h)
 
@@ -128,36 +128,28 @@ module _ (t : Table) (find : Row → Bool) (values : List Term) (row key : Row) 
   news_shown = subst₂ IsPermutation (map-map (λ s. cells t (remade t s)) source (filter find here) ∙ map_same _ _ (filter find here) each_set)
       (sym (map-map (cells t) (remade t) answer)) (IsPermutation-map (λ s. cells t (remade t s)) _ _ got)
 
-  const_is : map (λ (_ : Row). row) (filter (begins_with key) (map (cells t) here)) ≡ map (λ (_ : Row). row) (filter find here)
-  const_is = ap (map (λ (_ : Row). row)) (sym (map_filter (cells t) find (begins_with key) hits here)) ∙ map-map (λ (_ : Row). row) (cells t) (filter find here)
+  -- the given row for each that is found, and the others
+  both_shown : IsPermutation (with_row key row (map (cells t) here)) (map (λ (_ : Row). row) (filter find here) ++ map (cells t) (filter (λ r. not (find r)) here))
+  both_shown = subst (λ first. IsPermutation first (map (λ (_ : Row). row) (filter find here) ++ map (cells t) (filter (λ r. not (find r)) here)))
+      (sym (map-map (λ v. cond (begins_with key v) row v) (cells t) here ∙ map_same _ _ here (λ r h. ap (λ b. cond b row (cells t r)) (sym (hits r))))) (halves find (λ (_ : Row). row) (cells t) here)
 
-  -- the rows that are written show the given one
-  pub given_are : IsPermutation (map (λ (_ : Row). row) (filter (begins_with key) rows)) (map (cells t) (map (remade t) answer))
-  given_are = IsPermutation-trans _ _ _
-      (subst (IsPermutation _) const_is (IsPermutation-map (λ (_ : Row). row) _ _ (IsPermutation-filter (begins_with key) _ _ holds))) news_shown
-
-  -- the others are left
-  pub others_are : IsPermutation (without key rows) (map (cells t) left)
-  others_are = subst (IsPermutation _) (sym left_shown) (IsPermutation-filter (λ v. not (begins_with key v)) _ _ holds)
-
-  -- both together are the table
-  pub together : (all : List Row) → IsPermutation (map (remade t) answer ++ left) all
-      → IsPermutation (map (λ (_ : Row). row) (filter (begins_with key) rows) ++ without key rows) (map (cells t) all)
-  together all same = IsPermutation-trans _ _ _ (beside _ _ _ _ given_are others_are)
-      (subst (λ first. IsPermutation first (map (cells t) all)) (map-append (cells t) (map (remade t) answer) left) (IsPermutation-map (cells t) _ _ same))
-
-  -- this many rows were written
-  pub counted : length (map (remade t) answer) ≡ length (filter (begins_with key) rows)
-  counted = sym (length-map (map (remade t) answer) (cells t)) ∙ length_permutation _ _ given_are ∙ length-map (filter (begins_with key) rows) (λ (_ : Row). row)
+  -- the rows that are written and those that are left are the table
+  pub together : (all : List Row) → IsPermutation (map (remade t) answer ++ left) all → IsPermutation (with_row key row rows) (map (cells t) all)
+  together all same =
+      IsPermutation-trans _ _ _ (IsPermutation-map (λ v. cond (begins_with key v) row v) _ _ holds)
+      (IsPermutation-trans _ _ _ both_shown
+      (IsPermutation-trans _ _ _ (IsPermutation-append_left (map (cells t) (filter (λ r. not (find r)) here)) _ _ news_shown)
+      (subst (λ first. IsPermutation first (map (cells t) all)) (map-append (cells t) (map (remade t) answer) left ∙ ap (λ others. map (cells t) (map (remade t) answer) ++ map (cells t) others) left_is) (IsPermutation-map (cells t) _ _ same))))
 
 module _ (sql : List ℕ) (shape : TableShape) (kinds : List Kind) (width : ℕ) (it : IsUpdate sql shape kinds width) where
   -- the text is that of a write
   pub update_writes : IsWriteText sql
   update_writes = drafted_writes sql shape _ _ Update it.drafted (λ at q. tt)
 
-  -- an UPDATE that went through put the given row in the place of each with its key, and returned how many there were
-  pub update_replaces : (old new : State) (row : Row) → are_of kinds row ≡ true → (count : ℕ) → Executes sql row old new (Ok count) → Replaces (made_at shape) (take width row) row count old.now new.now
-  update_replaces old new row is count ran place rows inert stands =
+  -- an UPDATE that went through put the given row in the place of each with its key
+  pub update_puts : (old new : State) (row : Row) → are_of kinds row ≡ true → (count : ℕ) → Executes sql row old new (Ok count) → Puts (made_at shape) (take width row) row old.now new.now
+  unfolding Puts
+  update_puts old new row is count ran place rows inert stands =
       let t = made_at shape place in
       let key = take width row in
       let listed = stands.listed in
@@ -177,9 +169,8 @@ module _ (sql : List ℕ) (shape : TableShape) (kinds : List Kind) (width : ℕ)
           listed = listed_along old.now.schema new.now.schema t done.0 listed;
           keyed = subst IsKeyed (sym there)
               (keyed_put_all (map (remade t) answer) left ints fresh (left_keyed t find it.values row key here answer rows stands.keyed (it.hits place row is) (it.set place row is) got stands.holds));
-          holds = subst (λ all. IsPermutation (map (λ (_ : Row). row) (filter (begins_with key) rows) ++ without key rows) (map (cells t) all)) (sym there)
+          holds = subst (λ all. IsPermutation (with_row key row rows) (map (cells t) all)) (sym there)
               (together t find it.values row key here answer rows stands.keyed (it.hits place row is) (it.set place row is) got stands.holds _ (put_all_permutes (map (remade t) answer) left fresh));
         },
         record { schema = done.0; others = done.3.tables },
-        w.counted ∙ ap (λ n. unwrap_or n 0) (done.4 ∙ ap (λ news. Some (length news)) same) ∙ counted t find it.values row key here answer rows stands.keyed (it.hits place row is) (it.set place row is) got stands.holds,
       )

@@ -1,5 +1,5 @@
 -- Why a statement is not carried out, for another cause than running out of memory.
-use Rattle.std.specs.Prelude.{◌≡◌, ◌⊎◌, ◌<◌, ◌&&◌, ℕ, ℤ, pos, Bool, true, false, codes, List, [], Option, None, unwrap_or, Result, Ok, Err, IfErr, OnOk}
+use Rattle.std.specs.Prelude.{◌≡◌, ◌⊎◌, ◌&&◌, ℕ, ℤ, pos, Bool, true, false, codes, List, [], Option, None, unwrap_or, Result, Ok, Err, IfErr, OnOk}
 use Rattle.std.specs.List.Sorted.{IsPermutation, IsSorted}
 use Rattle.std.specs.declared.cmp.Ordering.{Ordering}
 use Rattle.sqlite_disk.specs.Disk.{MoreFaults}
@@ -13,13 +13,8 @@ use Rattle.sqlite.specs.Does.{Does, Tally}
 use Rattle.sqlite.specs.State.{State, HasCleanDisk, Savepoint, IsStatement, IsNotRun, ExecutesInside, FailsToQuery, Shown, mode_of, text_of}
 use Rattle.tables.specs.declared.fault.TableFault.{TableFault}
 use Rattle.tables.specs.declared.fault.TableFault.TheVariants.{Memory, Storage}
-use Rattle.tables.specs.declared.statements.Entering.{Entering}
-use Rattle.tables.specs.declared.statements.Entering.TheVariants.{InPlace, New}
-use Rattle.row_data.specs.declared.table.Table.{Table}
 use Rattle.tables.specs.Faults.{fault_of}
 use Rattle.tables.specs.Keyed.{have_ids, rises}
-use Rattle.tables.specs.Table.{sql_of, table_at, key_in}
-use Rattle.tables.specs.Writes.{Replaces}
 
 -- what a connection shows at a moment, and what it counts
 pub record Moment : Type 0 where
@@ -95,21 +90,6 @@ pub record WentThrough (sql : List ℕ) (params : Row) (count : ℕ) (limit : Op
 abbrev pub Went : List ℕ → Row → Option ℕ → Database → Database → Type 0
 Went sql params limit db now = (count : ℕ) × WentThrough sql params count limit db now
 
--- a row more, after an update by its key that found none
-pub record WentAdding (table : Table) (row : Row) (limit : Option ℕ) (db now : Database) : Type 0 where
-  pub between : Database
-  pub none : WentThrough (sql_of table).update row 0 limit db between
-  pub added : Went (sql_of table).insert row limit between now
-
--- a put of the row goes through: the one with its key is replaced, or it is added
-abbrev pub WentPutting : Table → Row → Option ℕ → Database → Database → Type 0
-WentPutting table row limit db now = WentThrough (sql_of table).update row 1 limit db now ⊎ WentAdding table row limit db now
-
--- a row goes through that is brought into its table so
-abbrev pub WentEntering : Entering → Table → Row → Option ℕ → Database → Database → Type 0
-WentEntering InPlace table row = WentPutting table row
-WentEntering New table row = Went (sql_of table).insert row
-
 -- a statement of this text is refused
 abbrev pub IsHindered : List ℕ → Row → Option ℕ → Database → Type 0
 IsHindered sql params limit db = IsRefusedCall (λ s e. ExecutesInside 0 sql params s s (Err e)) limit db ⊎ IsTooLarge sql params limit db
@@ -147,13 +127,6 @@ FailsToRead sql fault old new =
 abbrev pub FailsToWrite : List ℕ → Row → TableFault → State → State → Type 0
 FailsToWrite sql params fault old new = (e : Error) × ExecutesInside 0 sql params old new (Err e) × (fault ≡ fault_of e)
 
--- an update by the row's key went through and found no row, and then the row was added with an error that is this fault
-pub record FailsToAdd (table : Table) (row : Row) (fault : TableFault) (old new : State) : Type 0 where
-  pub between : Moment
-  pub none : Replaces (table_at table) (key_in table row) row 0 old.now between.now
-  pub kept : between.committed ≡ old.committed
-  pub fails : FailsToWrite (sql_of table).insert row fault (at_moment between) new
-
 -- a statement ran out of memory, before which nothing was committed
 pub record LacksMemory (old new : State) : Type 0 where
   pub between : Moment
@@ -165,37 +138,6 @@ pub record LacksMemory (old new : State) : Type 0 where
 -- the plainest query is refused
 abbrev pub IsUnready : Option ℕ → Database → Type 0
 IsUnready = IsRefusedCall (λ s e. IsNotRun s s (codes "SELECT 1") [] e)
-
--- a put replaces several rows
-pub record ReplacesSeveral (table : Table) (row : Row) (db : Database) : Type 0 where
-  pub count : ℕ
-  pub several : 1 < count
-  pub after : Database
-  pub replaced : Replaces (table_at table) (key_in table row) row count db after
-
--- a put failed with an error that is this fault: as it replaces the row with its key, or as it is added, or since several rows have its key
-abbrev pub FailsToPut : Table → Row → TableFault → State → State → Type 0
-FailsToPut table row fault old new = FailsToWrite (sql_of table).update row fault old new ⊎ (FailsToAdd table row fault old new ⊎ (ReplacesSeveral table row old.now × (fault ≡ Storage)))
-
--- a row that is brought into its table so is refused with an error that is this fault
-abbrev pub FailsToEnter : Entering → Table → Row → TableFault → State → State → Type 0
-FailsToEnter InPlace table row = FailsToPut table row
-FailsToEnter New table row = FailsToWrite (sql_of table).insert row
-
--- the row can't be added, where there is none with its key
-pub record IsHinderedToAdd (table : Table) (row : Row) (limit : Option ℕ) (db : Database) : Type 0 where
-  pub between : Database
-  pub none : WentThrough (sql_of table).update row 0 limit db between
-  pub hindered : IsHindered (sql_of table).insert row limit between
-
--- a put of the row is refused: as it replaces the row with its key, or as it is added, or since several rows have its key
-abbrev pub IsHinderedToPut : Table → Row → Option ℕ → Database → Type 0
-IsHinderedToPut table row limit db = IsHindered (sql_of table).update row limit db ⊎ (IsHinderedToAdd table row limit db ⊎ ReplacesSeveral table row db)
-
--- a row is refused that is brought into its table so
-abbrev pub IsHinderedToEnter : Entering → Table → Row → Option ℕ → Database → Type 0
-IsHinderedToEnter InPlace table row = IsHinderedToPut table row
-IsHinderedToEnter New table row = IsHindered (sql_of table).insert row
 
 -- Why a call from the one state to the other fails, for another cause than running out of memory: the connection is shut, the disk has
 -- failed or refused once more, or the call is hindered in this way.

@@ -25,7 +25,7 @@ abbrev pub IsKept : State → State → Type 0
 IsKept old new = IsTrue new.is_open → IsTrue old.is_open × (new.now ≡ old.now) × (new.committed ≡ old.committed)
 
 -- the trees of a database that P makes of the one that an open connection shows; a shut one leaves none
-pub record IsLeft (P : Database → Database → Type 0) (old : State) (trees : Trees) : Type 0 where
+pub record MayRecoverTo (P : Database → Database → Type 0) (old : State) (trees : Trees) : Type 0 where
   pub was_open : IsTrue old.is_open
   pub db : Database
   pub sound : IsDatabase db

@@ -22,9 +22,9 @@ use Rattle.sqlite_schema.specs.Names.{table_named}
 use Rattle.sqlite_schema.specs.Rules.{kind_code, kind_of}
 use Rattle.sqlite_value.specs.Keys.{plain}
 use Rattle.sqlite_value.specs.declared.keys.Order.{Order}
-use Rattle.row_data.specs.declared.table.Table.{Table}
-use Rattle.row_data.specs.declared.table.Table.TheVariants.{Edition, Supervisor, Project, Student, Round, OldChoice, OldPlacement, Import, RoundAim, Choice, Placement}
-pub use Rattle.row_data.specs.Rows.{all_tables, same_table}
+use Rattle.row_model.specs.declared.table.Table.{Table}
+use Rattle.row_model.specs.declared.table.Table.TheVariants.{Edition, Supervisor, Project, Student, Round, OldChoice, OldPlacement, Import, RoundAim, Choice, Placement}
+pub use Rattle.row_model.specs.Rows.{all_tables, same_table}
 use Rattle.tables.specs.declared.table.Group.{Group}
 use Rattle.tables.specs.declared.table.Group.TheVariants as group
 

@@ -1,5 +1,5 @@
 -- What a statement does to the rows of its table, and that it does nothing else.
-use Rattle.std.specs.Prelude.{◌≡◌, ◌≢◌, [], ◌∷◌, ◌++◌, ◌&&◌, List, Bool, true, ℕ, filter, map, length, drop, not}
+use Rattle.std.specs.Prelude.{◌≡◌, ◌≢◌, [], ◌∷◌, ◌&&◌, List, Bool, true, ℕ, filter, map, drop, not, if◌then◌else◌}
 use Rattle.std.specs.List.{AllByRecursion}
 use Rattle.sqlite.specs.Order.{Row, column}
 use Rattle.sqlite.specs.Collation.TheVariants.{Binary}
@@ -9,7 +9,7 @@ use Rattle.sqlite.specs.Effect.{Database}
 use Rattle.sqlite_rules.specs.Action.{works}
 use Rattle.sqlite_schema.specs.Rules.{equal}
 use Rattle.sqlite_schema.specs.declared.schema.Keys.TheVariants.{Enforced}
-use Rattle.tables.specs.Table.{Place, Rules, Lists}
+use Rattle.tables.specs.Table.{Place, Rules, Sql, Lists}
 use Rattle.tables.specs.Keyed.{Stands}
 use Rattle.tables.specs.Inert.{IsActedOn}
 use Rattle.tables.specs.declared.statements.Entering.{Entering}
@@ -34,8 +34,8 @@ pub record Creates (table : Place → AnyTable) (rules : Rules) (rows : List Row
   pub quiet : (t : AnyTable) → Lists old.schema t → IsActedOn new.schema.tables t.tree → IsActedOn old.schema.tables t.tree
 
 -- where no foreign key acts on the table, its rows become what f makes of them, and nothing else changes
-abbrev pub TurnsRows : (Place → AnyTable) → (List Row → List Row) → Database → Database → Type 0
-TurnsRows table f old new = (place : Place) (rows : List Row) → IsInert old.schema place.tree → Stands table place rows old → Stands table place (f rows) new × WritesOnly place.tree old new
+abbrev pub TransformsRows : (Place → AnyTable) → (List Row → List Row) → Database → Database → Type 0
+TransformsRows table f old new = (place : Place) (rows : List Row) → IsInert old.schema place.tree → Stands table place rows old → Stands table place (f rows) new × WritesOnly place.tree old new
 
 -- the row begins with these values, as SQL compares them
 abbrev pub begins_with : Row → Row → Bool
@@ -46,34 +46,28 @@ begins_with (value ∷ key) row = equal Binary (column row 0) value && begins_wi
 abbrev pub goes_on : ℕ → Row → Row → Bool
 goes_on before key row = begins_with key (drop before row)
 
--- the rows without those that begin with the key
-abbrev pub without : Row → List Row → List Row
-without key = filter (λ row. not (begins_with key row))
-
--- the rows with this one in place of those that have its key
+-- the rows with this one in the place of each that has its key
 abbrev pub with_row : Row → Row → List Row → List Row
-with_row key given rows = given ∷ without key rows
+with_row key given = map (λ row. if begins_with key row then given else row)
 
--- a row more in this table, where none had its key, and nothing else
-abbrev pub Adds : (Place → AnyTable) → Row → Row → Database → Database → Type 0
-Adds table key row old new =
-    (place : Place) (rows : List Row) → Stands table place rows old → Stands table place (row ∷ rows) new × WritesOnly place.tree old new × (filter (begins_with key) rows ≡ [])
+-- a row more in this table, and nothing else
+abbrev pub Adds : (Place → AnyTable) → Row → Database → Database → Type 0
+Adds table row old new = (place : Place) (rows : List Row) → Stands table place rows old → Stands table place (row ∷ rows) new × WritesOnly place.tree old new
 
 -- the rows that pass this test are gone
 unfoldable pub Removes : (Place → AnyTable) → (Row → Bool) → Database → Database → Type 0
-Removes table goes = TurnsRows table (filter (λ row. not (goes row)))
+Removes table goes = TransformsRows table (filter (λ row. not (goes row)))
 
--- of the rows with this key there is one, the given one
+-- each row with this key is replaced by the given one
 unfoldable pub Puts : (Place → AnyTable) → Row → Row → Database → Database → Type 0
-Puts table key given = TurnsRows table (with_row key given)
+Puts table key given = TransformsRows table (with_row key given)
 
--- what a statement does that brings a row into its table so
+-- the statement that brings a row into its table so
+abbrev pub entering : Entering → Sql → List ℕ
+entering InPlace sql = sql.update
+entering New sql = sql.insert
+
+-- and what it does
 abbrev pub Enters : Entering → (Place → AnyTable) → Row → Row → Database → Database → Type 0
-Enters InPlace = Puts
-Enters New = Adds
-
--- where no foreign key acts on the table, each row with this key is replaced by the given one, nothing else changes; there were this many
-abbrev pub Replaces : (Place → AnyTable) → Row → Row → ℕ → Database → Database → Type 0
-Replaces table key given count old new =
-    (place : Place) (rows : List Row) → IsInert old.schema place.tree → Stands table place rows old
-    → Stands table place (map (λ (_ : Row). given) (filter (begins_with key) rows) ++ without key rows) new × WritesOnly place.tree old new × (count ≡ length (filter (begins_with key) rows))
+Enters InPlace table key row = Puts table key row
+Enters New table key row = Adds table row

@@ -23,6 +23,7 @@ impl From<Error> for TableFault {
     fn from(error: Error) -> TableFault {
         match error {
             Error::SqliteFailure(ErrorCode::OutOfMemory) => TableFault::Memory,
+            // What the database refuses and what its disk fails at are one fault. The clauses named *cause* say which of them it was.
             _ => TableFault::Storage,
         }
     }

@@ -13,6 +13,7 @@ use sqlite_schema::schema::{Action, Reference, Schema, Table};
 pub(crate) fn is_passive(action: Action) -> bool
     ensures { result ≡ is_passive action }
 {
+    // RESTRICT is an action too: it refuses at once what NO ACTION judges when the statement has ended.
     matches!(action, Action::NoAction)
 }
 

@@ -13,7 +13,7 @@ ghost use Rattle.sqlite.specs.Table.{Table as AnyTable};
 
 use crate::inert::is_passive;
 use crate::table::{Link, Shape, Shaped, ToldColumn};
-use row_data::Table;
+use row_model::Table;
 use sqlite_items::Items;
 use sqlite_schema::names::same_name;
 use sqlite_schema::schema::{Column, Kind, Reference, Schema, Table as SchemaTable, View};
@@ -33,6 +33,7 @@ fn kind_in(kind: Kind, is_strict: bool) -> Kind
 fn is_required(column: &Column, told: &ToldColumn) -> bool
     ensures { result ≡ is_required (column_by told.now) column.now }
 {
+    // By bytes, as codes are compared here: under another collation the database could call two keys one.
     column.name.as_slice() == told.0.as_bytes()
         && column.kind == kind_in(told.1, column.is_strict)
         && column.not_null
@@ -82,6 +83,7 @@ fn is_alone(names: &Items<Bytes>, name: &str) -> bool
 fn is_referring(reference: &Reference, link: &Link) -> bool
     ensures { result ≡ is_referring (link_by link.now) reference.now }
 {
+    // No column named means the key of the other table, which is the same. A deferred reference is judged at the commit alone.
     reference.columns.as_slice() == [link.0].as_slice()
         && reference.parent.as_slice() == link.1.table.as_bytes()
         && (reference.parent_columns.len() == 0
@@ -146,6 +148,7 @@ fn has_keys(table: &SchemaTable, shape: &Shape) -> bool
 fn has_shape(table: &SchemaTable, shape: &Shape) -> bool
     ensures { result ≡ has_shape (told_by shape.now) table.now }
 {
+    // Letter for letter: a statement is known under one spelling of its table, although SQL finds `Student` too.
     table.name.as_slice() == shape.name.as_bytes()
         && has_keys(table, shape)
         && are_required(table.columns.as_slice(), shape.columns)
@@ -208,6 +211,7 @@ pub fn tree_of(schema: &Schema, table: Table) -> Option<u32>
     ensures none { result ≡ None → IsUnlisted (table_at table) schema.now }
 {
     let shape = table.shape();
+    // The first of the name alone, which is the one that a statement reaches.
     let listed = find_table(schema, shape.name)?;
     if !has_shape(listed, shape) {
         return None;

@@ -12,7 +12,7 @@
 //! `specs/Steps.antt`; begin there.
 //!
 //! A table that is made is STRICT, its references name their columns, and it has the CHECK rules that are declared; one that is found keeps
-//! its own. A further table is a variant of `Table` with its kinds and its key in `row_data`, its shape and its texts in `table.rt` and in
+//! its own. A further table is a variant of `Table` with its kinds and its key in `row_model`, its shape and its texts in `table.rt` and in
 //! `specs/Table.antt`, and the reading of its five texts in `proofs/Tables.antt`: what statements do is proved for all.
 #![tactic(auto)]
 
@@ -25,5 +25,5 @@ pub mod statements;
 mod table;
 mod write;
 
-pub use row_data::Table;
+pub use row_model::Table;
 pub use table::{Group, width};

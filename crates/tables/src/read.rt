@@ -23,6 +23,7 @@ fn id_of(row: &Row) -> ValueRef<'_>
 {
     match row.get_ref(0) {
         Ok(id) => id,
+        // A row without columns. NULL is no rowid either, so `has_id` refuses both.
         Err(_) => ValueRef::Null,
     }
 }
@@ -43,6 +44,7 @@ fn comes_first(row: &Row, more: &[Row]) -> bool
     ensures { result ≡ comes_first row.now more.now }
 {
     match more {
+        // Below the next one is enough: the order is transitive, so each is below all that follow.
         [next, ..] => by_rowid(row, next) == Ordering::Less,
         [] => true,
     }
@@ -81,6 +83,7 @@ fn put_in_order(rows: &mut Vec<Row>)
     ensures same { IsPermutation rows.old.items rows.new.items }
     ensures sorted { IsSorted by_rowid rows.new.items }
 {
+    // Rows of one rowid are refused after this, so how they stand to each other does not matter.
     rows.sort_unstable_by(by_rowid);
 }
 
@@ -98,8 +101,10 @@ pub(crate) fn read_text<S: Alter>(
     ensures mode { conn.old.in_transaction ≡ false → conn.new.in_transaction ≡ false }
     ensures survives { Survives (state S.Store conn.old) (state S.Store conn.new) (CommitsShowing sql.now [] (state S.Store conn.old)) }
 {
+    // A query without ORDER BY may show its rows in any order.
     let mut rows = conn.query_all(sql, &[])?;
     put_in_order(&mut rows);
+    // No contract of the database rules out two rows of one rowid.
     if !are_keyed(rows.as_slice()) {
         return Err(TableFault::Storage);
     }

@@ -22,7 +22,9 @@ pub fn need_open<S: Alter>(conn: &mut Connection<S>) -> Result<(), TableFault>
     ensures mode { conn.old.in_transaction ≡ false → conn.new.in_transaction ≡ false }
     ensures survives { Survives (state S.Store conn.old) (state S.Store conn.new) (λ _. ⊥) }
 {
+    // The plainest query: it touches no table, so that little but a shut connection can make it fail.
     let _ = conn.prepare("SELECT 1")?;
+    // Asked for its clause *live* alone: what an open connection shows is a database.
     let _ = conn.schema();
     Ok(())
 }

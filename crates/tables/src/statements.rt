@@ -5,16 +5,16 @@ ghost use Rattle.sqlite.specs.State.{HasCleanDisk, Survives};
 ghost use Rattle.sqlite.specs.Values.{bound};
 ghost use Rattle.sqlite.specs.Held.{state};
 ghost use Rattle.tables.specs.declared.fault.TableFault.TheVariants.{Storage};
-ghost use Rattle.tables.specs.Causes.{FailsToEnter, FailsToRead, FailsToWrite, IsCaused, IsCausedInside, IsHindered, IsHinderedToEnter, IsRunInside, IsToldInside, IsUnread, Went, WentEntering};
+ghost use Rattle.tables.specs.Causes.{FailsToRead, FailsToWrite, IsCaused, IsCausedInside, IsHindered, IsRunInside, IsToldInside, IsUnread, Went};
 ghost use Rattle.tables.specs.Table.{IsKeyOf, IsNamed, IsRowOf, key_in, rules_of, sharing, sql_of, table_at};
-ghost use Rattle.tables.specs.Writes.{Creates, Enters, Removes, begins_with, goes_on};
+ghost use Rattle.tables.specs.Writes.{Creates, Enters, Removes, begins_with, entering, goes_on};
 ghost use Rattle.tables.specs.Steps.{Does, HasStepped, Rests, Shows};
 
 use crate::fault::{TableFault, Wrote};
 use crate::read::read_text;
 use crate::table::{Group, Shaped};
 use crate::write::write;
-use row_data::Table;
+use row_model::Table;
 use sqlite::{Alter, Connection, Row, Transaction};
 use sqlite_value::value::ValueRef;
 
@@ -33,13 +33,25 @@ pub fn make<S: Alter>(tx: &mut Transaction<'_, S>, table: Table) -> Wrote
 /// How a row comes into its table.
 #[derive(Clone, Copy)]
 pub enum Entering {
-    /// In the place of the one with its key, or as one more.
+    /// In the place of the one with its key.
     InPlace,
-    /// As a row of a new key. The database refuses one whose key is there.
+    /// As one more.
     New,
 }
 
-/// Brings a row into its table.
+impl Entering {
+    /// Returns the text that brings a row into the table so.
+    fn text(self, table: Table) -> &'static str
+        ensures { result.now ≡ entering self (sql_of table) }
+    {
+        match self {
+            Entering::InPlace => table.shape().update,
+            Entering::New => table.shape().insert,
+        }
+    }
+}
+
+/// Brings a row into its table. In the place of none nothing changes.
 pub fn enter<S: Alter>(
     tx: &mut Transaction<'_, S>,
     way: Entering,
@@ -50,24 +62,12 @@ pub fn enter<S: Alter>(
 
     ensures same_reference { tx.new.conn.ghost_name ≡ tx.old.conn.ghost_name }
     ensures step { Does (HasStepped (Enters way (table_at table) (key_in table (bound row.now)) (bound row.now))) result (state S.Store tx.old.conn.now) (state S.Store tx.new.conn.now) }
-    ensures ran { IsRunInside (WentEntering way table (bound row.now)) result (state S.Store tx.old.conn.now) (state S.Store tx.new.conn.now) }
-    ensures told { IsToldInside (FailsToEnter way table (bound row.now)) result (state S.Store tx.old.conn.now) (state S.Store tx.new.conn.now) }
-    ensures cause { IsCausedInside (IsHinderedToEnter way table (bound row.now)) result (state S.Store tx.old.conn.now) (state S.Store tx.new.conn.now) }
+    ensures ran { IsRunInside (Went (entering way (sql_of table)) (bound row.now)) result (state S.Store tx.old.conn.now) (state S.Store tx.new.conn.now) }
+    ensures told { IsToldInside (FailsToWrite (entering way (sql_of table)) (bound row.now)) result (state S.Store tx.old.conn.now) (state S.Store tx.new.conn.now) }
+    ensures cause { IsCausedInside (IsHindered (entering way (sql_of table)) (bound row.now)) result (state S.Store tx.old.conn.now) (state S.Store tx.new.conn.now) }
 {
-    match way {
-        Entering::New => {
-            write(tx, table.shape().insert, row)?;
-            Ok(())
-        }
-        Entering::InPlace => match write(tx, table.shape().update, row)? {
-            0 => {
-                write(tx, table.shape().insert, row)?;
-                Ok(())
-            }
-            1 => Ok(()),
-            _ => Err(TableFault::Storage),
-        },
-    }
+    write(tx, way.text(table), row)?;
+    Ok(())
 }
 
 /// Takes the rows away that begin with these values.
@@ -80,6 +80,7 @@ pub fn delete<S: Alter>(tx: &mut Transaction<'_, S>, table: Table, key: &[ValueR
     ensures told { IsToldInside (FailsToWrite (sql_of table).delete (bound key.now)) result (state S.Store tx.old.conn.now) (state S.Store tx.new.conn.now) }
     ensures cause { IsCausedInside (IsHindered (sql_of table).delete (bound key.now)) result (state S.Store tx.old.conn.now) (state S.Store tx.new.conn.now) }
 {
+    // How many went does not matter: it is as well if there was none.
     write(tx, table.shape().delete, key)?;
     Ok(())
 }

@@ -4,7 +4,7 @@ ghost use Rattle.std.specs.Prelude.{◌≡◌, length};
 ghost use Rattle.tables.specs.Table.{Sharing, kinds_of, shape_of, sharing, sql_of};
 ghost use Rattle.tables.specs.Inside.Table.{texts_by, told_by};
 
-use row_data::Table;
+use row_model::Table;
 use sqlite_schema::schema::Kind;
 
 /// A column of a table, by its name and its kind: NOT NULL, with no default.
@@ -85,6 +85,7 @@ const BY_TEXT: Keys = Keys {
     named: 1,
 };
 
+// In SQLite `INTEGER PRIMARY KEY` names the rowid itself: there is no further index, so no unique columns are listed.
 /// The first column is the key, a number: the rowid.
 const BY_ROWID: Keys = Keys {
     rowid: Some(0),
@@ -129,6 +130,8 @@ pub(crate) struct Shape {
 mod rows {
     use super::{BYTES, BY_PLACE, BY_ROWID, BY_TEXT, CHOICE_COLUMNS, CHOICE_LINKS, CODE, GENEROUS, ID, IMPORT, KIND, LABEL, NUMBER, OPEN, PLACEMENT_COLUMNS, PLACEMENT_LINKS, QUOTA, ROUND, ROUNDS, ROWS, SUPERVISOR, SUPERVISORS, Link, Shape};
 
+    // Written out, and not made from the columns: so what the database reads stands here, and how it reads each is computed once.
+    // A query shows the rowid first, by which its rows are put in order: ORDER BY would ask more of each proof of a reading.
     pub(crate) static EDITION_SHAPE: Shape = Shape { name: "edition", columns: &[ID, NUMBER], keys: BY_ROWID, links: &[],
         create: "CREATE TABLE edition (id INTEGER NOT NULL PRIMARY KEY CHECK (id = 1), number INTEGER NOT NULL) STRICT",
         insert: "INSERT INTO edition (id, number) VALUES (?1, ?2)", update: "UPDATE edition SET number = ?2 WHERE id = ?1",
@@ -154,6 +157,7 @@ mod rows {
         insert: "INSERT INTO round (number, open) VALUES (?1, ?2)", update: "UPDATE round SET open = ?2 WHERE number = ?1",
         delete: "DELETE FROM round WHERE number = ?1", select: "SELECT rowid, * FROM round" };
 
+    // As editions 1 and 2 made it, with the CHECK of eight: a table has one shape in all editions, so no migration changes one.
     pub(crate) static OLD_CHOICE_SHAPE: Shape = Shape { name: "choice", columns: CHOICE_COLUMNS, keys: BY_PLACE, links: CHOICE_LINKS,
         create: "CREATE TABLE choice (round INTEGER NOT NULL REFERENCES round (number), student TEXT NOT NULL REFERENCES student (code), place INTEGER NOT NULL CHECK (place BETWEEN 1 AND 8), project TEXT NOT NULL REFERENCES project (code), PRIMARY KEY (round, student, place), UNIQUE (round, student, project)) STRICT",
         insert: "INSERT INTO choice (round, student, place, project) VALUES (?1, ?2, ?3, ?4)", update: "UPDATE choice SET round = ?1, student = ?2, place = ?3, project = ?4 WHERE round = ?1 AND student = ?2 AND place = ?3",
@@ -199,6 +203,7 @@ impl Group {
     pub(crate) fn removal(self) -> &'static str
         ensures { result.now ≡ (sharing self).removal }
     {
+        // Of the latest edition alone: rows of the earlier tables are taken out one by one, by their keys, when these are migrated.
         match self {
             Group::List => "DELETE FROM choice12 WHERE round = ?1 AND student = ?2",
             Group::Placed => "DELETE FROM placement12 WHERE round = ?1",
@@ -213,6 +218,7 @@ pub fn width(table: Table) -> usize
     table.shape().columns.len()
 }
 
+// A trait, since `Table` is of `row_model`, which knows no SQL.
 /// What has a shape.
 pub(crate) trait Shaped {
     fn shape(self) -> &'static Shape;

@@ -1,5 +1,6 @@
 -- What comes of a message.
 use Rattle.std.proofs.Common.{◌≡◌, ◌⊎◌, inl, inr, ℕ, List, Option, None, IfSome, Result, Ok, Err, refl, sym, subst, ap}
+use Rattle.std.specs.Option.{unwrap_or}
 use Rattle.sqlite_trees.specs.declared.store.Store.{Ghosts}
 use Rattle.rolls.specs.declared.refusal.Refusal.{Refusal}
 use Rattle.rolls.specs.declared.refusal.Refusal.TheVariants.{Memory, Storage}
@@ -14,14 +15,14 @@ use Rattle.rolls.specs.Run.{Makes, Step, refusal}
 use Rattle.outside.specs.Layers.{layers}
 use Rattle.desk.specs.Keeping.{repeated_rows}
 use Rattle.desk.specs.DeskState.{DeskState}
-use Rattle.desk.specs.Sessions.{AnswersAtOnce, GoesOn, IsToldRight}
+use Rattle.desk.specs.Sessions.{AnswersAtOnce, GoesOn}
 use Rattle.desk.specs.Causes.{IsHinderedToAsk}
 use Rattle.store.specs.Saving.{AreActedOn}
 use Rattle.tables.specs.Causes.{IsCaused}
 use Rattle.sqlite.specs.Held.{state}
 use Rattle.wire.specs.Run.{MessageText}
 use Rattle.api.specs.Texts.{IsRead, refusal_text, text_of}
-use Rattle.web.specs.Serving.{AnswersFrom, AnswersMessage, AnswersOffice, AnswersRead, AtDesk, Gets, GetsAt, Gives, at_desk}
+use Rattle.web.specs.Serving.{AnswersFrom, AnswersMessage, AnswersOffice, AnswersRead, AtDesk, Gets, GetsAt, at_desk}
 
 -- an answer that is the one of a change has no text of the office in it
 no_read : (a b : Reply) → a ≡ b → IsRead (Ok a) → IsRead (Ok b)
@@ -32,10 +33,10 @@ owes_none : {A : Type 0} (found : Option A) (P : A → Type 0) → found ≡ Non
 owes_none {A} found P none = subst (λ (o : Option A). IfSome o P) (sym none) tt
 
 -- A request not refused, no read of a round, repeated import or preview, may run out of memory: it leaves the office and the session.
-wants_memory : (o n : AtDesk) (q : Request) → refusal_of o.office q ≡ None → ((number : ℕ) → q ≡ request.Plain (GetRound number) → ⊥) → repeated_rows o.office q ≡ None
+runs_out : (o n : AtDesk) (q : Request) → refusal_of o.office q ≡ None → ((number : ℕ) → q ≡ request.Plain (GetRound number) → ⊥) → repeated_rows o.office q ≡ None
     → (q ≡ request.Preview → ⊥) → n.office ≡ o.office → n.session ≡ o.session → Gets o q (Err Memory) n
-wants_memory o n q allowed no_round new no_preview stays kept = record {
-  gives = record { step = (stays, inl refl); right = record { named = owes_none (refusal_of o.office q) (λ r. Err Memory ≡ Err r) allowed; storage = λ is. cc; refused = λ is. cc } };
+runs_out o n q allowed no_round new no_preview stays kept = record {
+  step = (stays, inr (allowed, inr (inl refl)));
   at_once = record {
     round = λ number is _. absurd (no_round number is);
     repeated = λ _. owes_none (repeated_rows o.office q) (λ rows. Err Memory ≡ Ok (reply.Rows rows)) new;
@@ -45,21 +46,21 @@ wants_memory o n q allowed no_round new no_preview stays kept = record {
 }
 
 -- where memory runs out for the text of an answer, it is as if it had for the request: it is a read
-plain_wants : (o n : AtDesk) (p : Plain) (a : Reply) → IsRead (Ok a) → refusal layers o.office (request.Plain p) ≡ None → Makes layers o.office (request.Plain p) a n.office
+plain_runs_out : (o n : AtDesk) (p : Plain) (a : Reply) → IsRead (Ok a) → refusal layers o.office (request.Plain p) ≡ None → Makes layers o.office (request.Plain p) a n.office
     → GoesOn o.office (request.Plain p) (Ok a) o.session n.session → Gets o (request.Plain p) (Err Memory) n
-plain_wants o n (GetSupervisor code) a read allowed made goes = wants_memory o n _ allowed (λ number is. cc) refl (λ is. cc) made.1 goes
-plain_wants o n (GetProject code) a read allowed made goes = wants_memory o n _ allowed (λ number is. cc) refl (λ is. cc) made.1 goes
-plain_wants o n (GetStudent code) a read allowed made goes = wants_memory o n _ allowed (λ number is. cc) refl (λ is. cc) made.1 goes
-plain_wants o n _ a read allowed made goes = absurd (no_read a _ made.0 read)
+plain_runs_out o n (GetSupervisor code) a read allowed made goes = runs_out o n _ allowed (λ number is. cc) refl (λ is. cc) made.1 goes
+plain_runs_out o n (GetProject code) a read allowed made goes = runs_out o n _ allowed (λ number is. cc) refl (λ is. cc) made.1 goes
+plain_runs_out o n (GetStudent code) a read allowed made goes = runs_out o n _ allowed (λ number is. cc) refl (λ is. cc) made.1 goes
+plain_runs_out o n _ a read allowed made goes = absurd (no_read a _ (ap (λ (r : Option Reply). unwrap_or r a) made.0) read)
 
-text_wants : (o n : AtDesk) (q : Request) (a : Reply) → IsRead (Ok a) → refusal layers o.office q ≡ None → Makes layers o.office q a n.office → GoesOn o.office q (Ok a) o.session n.session
+text_runs_out : (o n : AtDesk) (q : Request) (a : Reply) → IsRead (Ok a) → refusal layers o.office q ≡ None → Makes layers o.office q a n.office → GoesOn o.office q (Ok a) o.session n.session
     → Gets o q (Err Memory) n
-text_wants o n (request.Plain p) a read allowed made goes = plain_wants o n p a read allowed made goes
-text_wants o n request.Close a read allowed made goes = absurd (no_read a _ made.3 read)
-text_wants o n request.Preview a read allowed made goes = absurd (no_read a _ made.3 read)
-text_wants o n request.RoundText a read allowed made goes = wants_memory o n _ allowed (λ number is. cc) refl (λ is. cc) made.1 goes
-text_wants o n (request.Report kind round) a read allowed made goes = wants_memory o n _ allowed (λ number is. cc) refl (λ is. cc) made.1 goes
-text_wants o n (request.Import id kind bytes) a read allowed made goes = absurd (no_read a _ made.0 read)
+text_runs_out o n (request.Plain p) a read allowed made goes = plain_runs_out o n p a read allowed made goes
+text_runs_out o n request.Close a read allowed made goes = absurd (no_read a _ made.3 read)
+text_runs_out o n request.Preview a read allowed made goes = absurd (no_read a _ made.3 read)
+text_runs_out o n request.RoundText a read allowed made goes = runs_out o n _ allowed (λ number is. cc) refl (λ is. cc) made.1 goes
+text_runs_out o n (request.Report kind round) a read allowed made goes = runs_out o n _ allowed (λ number is. cc) refl (λ is. cc) made.1 goes
+text_runs_out o n (request.Import id kind bytes) a read allowed made goes = absurd (no_read a _ made.0 read)
 
 -- what is read of a message is answered as what is seen of it
 module _ {D S : Type 0} (see : D → S) (At : D → Request → Result Reply Refusal → D → Type 0) (Seen : S → Request → Result Reply Refusal → S → Type 0) (o n : D)
@@ -70,21 +71,21 @@ module _ {D S : Type 0} (see : D → S) (At : D → Request → Result Reply Ref
 
 module _ {S : Type 0} (ghosts : Ghosts S) where
   -- what a desk promises of a request is what the request gets
-  pub gets_at : (o n : DeskState S) (q : Request) (a : Result Reply Refusal) → Step layers o.office q a n.office → IsToldRight o.office q a → AnswersAtOnce o.office o.session q a → GoesOn o.office q a o.session n.session
+  pub gets_at : (o n : DeskState S) (q : Request) (a : Result Reply Refusal) → Step layers o.office q a n.office → AnswersAtOnce o.office o.session q a → GoesOn o.office q a o.session n.session
       → ((AreActedOn (state ghosts o.store).now.schema → ⊥) → IsCaused Storage (IsHinderedToAsk o.office q) a (state ghosts o.store) (state ghosts n.store)) → GetsAt ghosts o q a n
-  gets_at o n q a step right at_once goes cause = record { gets = record { gives = record { step = step; right = right }; at_once = at_once; goes = goes }; cause = cause }
+  gets_at o n q a step at_once goes cause = record { gets = record { step = step; at_once = at_once; goes = goes }; cause = cause }
 
   -- a request that gets an answer is answered by its text, or as one that runs out of memory
   pub answered_from : (o n : DeskState S) (bytes : List ℕ) (q : Request) (a : Result Reply Refusal) → GetsAt ghosts o q a n
       → (bytes ≡ text_of a) ⊎ (IsRead a × (bytes ≡ refusal_text Memory)) → AnswersRead (GetsAt ghosts) o (Ok q) bytes n
-  answered_from o n bytes q a at (inl told) = (a, at, told)
-  answered_from o n bytes q (Ok reply) at (inr told) =
-      (Err Memory, record { gets = text_wants (at_desk o) (at_desk n) q reply told.0 at.gets.gives.step.0 at.gets.gives.step.1 at.gets.goes; cause = λ alone clean is. cc }, told.1)
-  answered_from o n bytes q (Err refused) at (inr told) = absurd told.0
+  answered_from o n bytes q a at (inl earlier) = (a, at, earlier)
+  answered_from o n bytes q (Ok reply) at (inr earlier) =
+      (Err Memory, record { gets = text_runs_out (at_desk o) (at_desk n) q reply earlier.0 at.gets.step.0 at.gets.step.1 at.gets.goes; cause = λ alone clean is. cc }, earlier.1)
+  answered_from o n bytes q (Err refused) at (inr earlier) = absurd earlier.0
 
   -- a desk with its tables answers as what is seen of it, and as its office
   pub message_seen : (o : DeskState S) (words : MessageText) (bytes : List ℕ) (n : DeskState S) → AnswersFrom ghosts o words bytes n → AnswersMessage (at_desk o) words bytes (at_desk n)
   message_seen o words bytes n from = (from.read, from.is_read, read_seen at_desk (GetsAt ghosts) Gets o n (λ q a at. at.gets) from.read bytes from.answers)
 
   pub office_seen : (o : DeskState S) (words : MessageText) (bytes : List ℕ) (n : DeskState S) → AnswersFrom ghosts o words bytes n → AnswersOffice o.office words bytes n.office
-  office_seen o words bytes n from = (from.read, from.is_read, read_seen (λ desk. desk.office) (GetsAt ghosts) Gives o n (λ q a at. at.gets.gives) from.read bytes from.answers)
+  office_seen o words bytes n from = (from.read, from.is_read, read_seen (λ desk. desk.office) (GetsAt ghosts) (Step layers) o n (λ q a at. at.gets.step) from.read bytes from.answers)

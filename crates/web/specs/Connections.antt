@@ -1,5 +1,5 @@
--- What became of the connections of a listener, and the line of each.
-use Rattle.std.specs.Prelude.{◌≡◌, ◌⊎◌, ℕ, ◌+◌, ◌<◌, List, [], ◌∷◌, ◌++◌, length, take, codes, decimal, Option, Result, Ok, Err}
+-- What became of the connections of a port, and the line of each.
+use Rattle.std.specs.Prelude.{◌≡◌, ◌⊎◌, ℕ, suc, ◌+◌, ◌<◌, List, [], ◌∷◌, ◌++◌, length, take, codes, decimal, Option, Some, None, Result, Ok, Err}
 use Rattle.std.specs.Io.KnownBytes.{Appends}
 use Rattle.wire.specs.declared.outcome.End.{End}
 use Rattle.wire.specs.declared.outcome.End.TheVariants.{Closed, Unfinished, BadHead, TooLarge, Hundred}
@@ -8,21 +8,23 @@ use Rattle.wire.specs.declared.outcome.StreamFault.{StreamFault}
 use Rattle.wire.specs.declared.outcome.StreamFault.TheVariants.{Memory, Read, Write}
 use Rattle.wire.specs.Run.{MessageText}
 use Rattle.wire.specs.Served.{IsServed}
+use Rattle.world.specs.WorldState.{Found}
 use Rattle.web.specs.Serving.{end_text}
 
 module _ {D : Type 0} (step : D → MessageText → List ℕ → D → Type 0) where
-  -- a stream was served at a desk, to its end or until a fault
-  abbrev pub IsStreamed : D → Result Served StreamFault → D → Type 0
-  IsStreamed before came after = (left0 w0 left w : Option (List ℕ)) × IsServed step end_text before left0 w0 came after left w
+  -- a stream of these bytes, where they are known, was served at a desk, to its end or until a fault
+  abbrev pub IsStreamed : Option (List ℕ) → D → Result Served StreamFault → D → Type 0
+  IsStreamed left0 before came after = (w0 left w : Option (List ℕ)) × IsServed step end_text before left0 w0 came after left w
 
   -- the stream of a connection was served; one that could not be accepted is a fault of reading, and leaves what is at the desk
-  abbrev pub Connects : D → Result Served StreamFault → D → Type 0
-  Connects before came after = IsStreamed before came after ⊎ ((came ≡ Err Read) × (after ≡ before))
+  abbrev pub Connects : (Found → Type 0) → D → Result Served StreamFault → D → Type 0
+  Connects comes before came after =
+      ((left0 : Option (List ℕ)) × comes (Some left0) × IsStreamed left0 before came after) ⊎ (comes None × (came ≡ Err Read) × (after ≡ before))
 
-  -- one connection after another
-  abbrev pub Connect : D → List (Result Served StreamFault) → D → Type 0
-  Connect before [] after = after ≡ before
-  Connect before (came ∷ more) after = (next : D) × Connects before came next × Connect next more after
+  -- the connections that came, one after another
+  abbrev pub Connect : (ℕ → Found → Type 0) → D → List (Result Served StreamFault) → D → Type 0
+  Connect comes before [] after = after ≡ before
+  Connect comes before (came ∷ more) after = (next : D) × Connects (comes 0) before came next × Connect (λ n. comes (suc n)) next more after
 
 -- the word for the end of a stream
 abbrev pub end_word : End → List ℕ
@@ -48,20 +50,20 @@ abbrev pub lines_after : ℕ → List (Result Served StreamFault) → List ℕ
 lines_after before [] = []
 lines_after before (came ∷ more) = connection_line (before + 1) came ++ lines_after (before + 1) more
 
-module _ {D : Type 0} (step : D → MessageText → List ℕ → D → Type 0) where
+module _ {D : Type 0} (step : D → MessageText → List ℕ → D → Type 0) (comes : ℕ → Found → Type 0) where
   -- this many connections were served, and the line of each was written
   pub record AllServed (before : D) (count : ℕ) (w0 w : Option (List ℕ)) (after : D) : Type 0 where
     pub came : List (Result Served StreamFault)
     pub counted : length came ≡ count
-    pub served : Connect step before came after
+    pub served : Connect step comes before came after
     pub wrote : Appends w0 w (lines_after 0 came)
 
   -- some of this many connections were served: the lines of all but the last were written whole, and a part of the last one's
   pub record SomeServed (before : D) (count : ℕ) (w0 w : Option (List ℕ)) (after : D) : Type 0 where
-    pub told : List (Result Served StreamFault)
+    pub earlier : List (Result Served StreamFault)
     pub last : Result Served StreamFault
-    pub few : length told < count
-    pub served : Connect step before (told ++ last ∷ []) after
+    pub few : length earlier < count
+    pub served : Connect step comes before (earlier ++ last ∷ []) after
     pub kept : ℕ
-    pub cut : kept < length (connection_line (length told + 1) last)
-    pub wrote : Appends w0 w (lines_after 0 told ++ take kept (connection_line (length told + 1) last))
+    pub cut : kept < length (connection_line (length earlier + 1) last)
+    pub wrote : Appends w0 w (lines_after 0 earlier ++ take kept (connection_line (length earlier + 1) last))

@@ -15,7 +15,7 @@ use Rattle.tables.specs.Causes.{IsCaused}
 use Rattle.store.specs.Saving.{AreActedOn}
 use Rattle.desk.specs.Causes.{IsHinderedToAsk}
 use Rattle.desk.specs.DeskState.{DeskState}
-use Rattle.desk.specs.Sessions.{AnswersAtOnce, GoesOn, IsToldRight}
+use Rattle.desk.specs.Sessions.{AnswersAtOnce, GoesOn}
 use Rattle.wire.specs.declared.outcome.End.{End}
 use Rattle.wire.specs.declared.outcome.End.TheVariants.{Closed, Unfinished, BadHead, TooLarge, Hundred}
 use Rattle.wire.specs.Run.{MessageText}
@@ -35,15 +35,9 @@ at_desk desk = record { office = desk.office; session = desk.session }
 abbrev pub just_opened : State → AtDesk
 just_opened office = record { office = office; session = None }
 
--- A step of the office, and its answer. A refusal by name is answered as itself, and a fault of the storage is answered to what changes the
--- office alone.
-pub record Gives (before : State) (asked : Request) (answer : Result Reply Refusal) (after : State) : Type 0 where
-  pub step : Step layers before asked answer after
-  pub right : IsToldRight before asked answer
-
--- The same at a desk. What allocates nothing is answered, and the session goes on over the request.
+-- A step of the office at a desk. What allocates nothing is answered, and the session goes on over the request.
 pub record Gets (before : AtDesk) (asked : Request) (answer : Result Reply Refusal) (after : AtDesk) : Type 0 where
-  pub gives : Gives before.office asked answer after.office
+  pub step : Step layers before.office asked answer after.office
   pub at_once : AnswersAtOnce before.office before.session asked answer
   pub goes : GoesOn before.office asked answer before.session after.session
 
@@ -60,7 +54,7 @@ module _ {D : Type 0} (Answered : D → Request → Result Reply Refusal → D �
 
 -- a message is answered so by the office
 abbrev pub AnswersOffice : State → MessageText → List ℕ → State → Type 0
-AnswersOffice = AnswersBy Gives
+AnswersOffice = AnswersBy (Step layers)
 
 -- and at a desk
 abbrev pub AnswersMessage : AtDesk → MessageText → List ℕ → AtDesk → Type 0

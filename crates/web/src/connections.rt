@@ -1,4 +1,4 @@
-//! Connections of a listener, served at a desk one after another.
+//! Connections of a port, served at a desk one after another.
 ghost use Rattle.std.specs.Io.KnownBytes.{Appends};
 ghost use Rattle.std.specs.Prelude.{◌≡◌, ℕ, ◌+◌, ◌≤◌, ◌<◌, ◌-◌, ◌^◌, ◌++◌, length, take, Err, IfOk, IfErr, OnOk, OnErr};
 ghost use Rattle.wire.specs.declared.TheConstants.{MAX_SHORT_BODY};
@@ -15,8 +15,8 @@ use sqlite::Alter;
 use std::alloc::Global;
 use std::io;
 use std::io::{Read, Write};
-use std::net::{SocketAddr, TcpListener, TcpStream};
 use wire::{End, Served, ShortText, Sink, StreamFault, Watched, write_all};
+use world::Door;
 
 /// The writer that lines go to failed: its count of failures grew by one.
 #[derive(Clone, Copy, Drop)]
@@ -102,19 +102,19 @@ fn serve_over<S: Alter, R: Read + Drop, W: Write + Drop>(
     (came, reader.into_inner(), writer.into_inner())
 }
 
-/// Serves the stream of a connection that was accepted, or could not be, and returns what became of it.
-fn serve_accepted<S: Alter>(
+/// Serves the stream of a connection by its two ends, or returns that it could not be accepted.
+fn serve_accepted<S: Alter, R: Read + Drop, W: Write + Drop>(
     alloc: Global,
     desk: &mut Desk<S>,
-    accepted: io::Result<(TcpStream, SocketAddr)>,
+    accepted: io::Result<(R, W)>,
 ) -> Result<Served, StreamFault>
-    ensures served { IfOk accepted (λ _. IsStreamed (AnswersFrom S.Store) desk.old result desk.new) }
+    ensures served { IfOk accepted (λ ends. IsStreamed (AnswersFrom S.Store) (R.remaining ends.0) desk.old result desk.new) }
     ensures unaccepted { IfErr accepted (λ _. (result ≡ Err StreamFault.Read) × (desk.new ≡ desk.old)) }
 {
-    let Ok((stream, _)) = accepted else {
+    let Ok((reader, writer)) = accepted else {
         return Err(StreamFault::Read);
     };
-    let (came, _, _) = serve_over(alloc, desk, &stream, &stream);
+    let (came, _, _) = serve_over(alloc, desk, reader, writer);
     came
 }
 
@@ -122,21 +122,21 @@ fn serve_accepted<S: Alter>(
 /// each. A connection that cannot be accepted counts as one with a fault of reading.
 ///
 /// `OutFault` comes only where the writer of the lines failed; the connections that came later are not served.
-pub fn serve_on<S: Alter, O: Sink>(
+pub fn serve_on<S: Alter, D: Door, O: Sink>(
     alloc: Global,
     desk: &mut Desk<S>,
-    listener: &TcpListener,
+    door: &mut D,
     count: u32,
     out: &mut O,
 ) -> Result<(), OutFault>
     requires { O.failures out.old < 2 ^ 64 - 1 }
-    ensures served { OnOk result (AllServed (AnswersFrom S.Store) desk.old count (O.written out.old) (O.written out.new) desk.new) }
-    ensures broken { OnErr result (SomeServed (AnswersFrom S.Store) desk.old count (O.written out.old) (O.written out.new) desk.new) }
+    ensures served { OnOk result (AllServed (AnswersFrom S.Store) (D.comes door.old) desk.old count (O.written out.old) (O.written out.new) desk.new) }
+    ensures broken { OnErr result (SomeServed (AnswersFrom S.Store) (D.comes door.old) desk.old count (O.written out.old) (O.written out.new) desk.new) }
     ensures count_ok { OnOk result (O.failures out.new ≡ O.failures out.old) }
     ensures count_err { OnErr result (O.failures out.new ≡ O.failures out.old + 1) }
 {
     for before in 0..count {
-        let came = serve_accepted(alloc, desk, listener.accept());
+        let came = serve_accepted(alloc, desk, door.accept());
         write_line(out, before + 1, &came)?;
     }
     Ok(())

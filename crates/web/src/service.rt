@@ -13,7 +13,7 @@ use wire::{Answer, End, Handler, Served, Sink, Source, StreamFault, serve_messag
 
 /// Answers the messages of a stream at a desk.
 #[derive(Drop)]
-struct Clerk {
+struct OfficeHandler {
     alloc: Global,
     routes: Routes,
 }
@@ -28,7 +28,7 @@ fn refusal_at(end: End) -> Refusal
     }
 }
 
-impl<S: Alter> Handler<Desk<S>> for Clerk {
+impl<S: Alter> Handler<Desk<S>> for OfficeHandler {
     ghost step = { AnswersFrom S.Store };
 
     ghost refusal = { end_text };
@@ -76,6 +76,6 @@ pub fn serve_stream<S: Alter, R: Source, W: Sink>(
     let Ok(routes) = Routes::new(alloc) else {
         return Err(StreamFault::Memory);
     };
-    let clerk = Clerk { alloc, routes };
+    let clerk = OfficeHandler { alloc, routes };
     serve_messages(alloc, &clerk, desk, reader, writer)
 }

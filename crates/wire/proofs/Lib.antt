@@ -5,4 +5,4 @@ pub mod Known
 pub mod ReaderEnd
 pub mod Runs
 pub mod FieldSearch
-pub mod Turns
+pub mod OneMessage

@@ -103,6 +103,7 @@ impl<R: Read> Source for Watched<R> {
     fn read(&mut self, buf: &mut [u8]) -> io::Result<usize> {
         match self.inner.read(buf) {
             Ok(n) => {
+                // A `buf` of no bytes would look like the end; a window never reads into one.
                 self.ended = n == 0;
                 Ok(n)
             }
@@ -121,6 +122,7 @@ impl<W: Write> Sink for Watched<W> {
 
     fn write(&mut self, buf: &[u8]) -> io::Result<usize> {
         match self.inner.write(buf) {
+            // Counted as a failure, since the bytes would never be written.
             Ok(0) => {
                 self.failures += 1;
                 Ok(0)

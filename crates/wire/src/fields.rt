@@ -43,6 +43,7 @@ fn has_field(buf: &[u8], headers: &[HeaderSpan], name: &[u8]) -> bool
 fn is_number(value: &[u8]) -> bool
     ensures { result ≡ is_number value.now }
 {
+    // `Content-Length = 1*DIGIT` (RFC 9110, section 8.6): no sign, no space within, and at least one digit.
     for b in value {
         if !b.is_ascii_digit() {
             return false;
@@ -58,6 +59,7 @@ fn saturated(value: &[u8]) -> u64
 {
     let mut total = 0;
     for digit in value {
+        // Cut off at each digit, so that a length of any number of digits cannot overflow.
         total = (total * 10 + u64::from(*digit - b'0')).min(MAX_BODY_BYTES + 1);
     }
     total
@@ -94,6 +96,7 @@ fn framing_by_lengths(buf: &[u8], headers: &[HeaderSpan]) -> Framing
         }
     }
     match found {
+        // RFC 9112, section 6.3, item 7: a request without these fields has no body.
         None => Framing::Length(0),
         Some(value) => length_of(value.of(buf)),
     }

@@ -9,7 +9,7 @@ use crate::outcome::End;
 use httparse::spans::{HeaderSpan, RequestSpans, Span, parse_request};
 use httparse::{Error, Status};
 
-/// The fields for which the parser has room: more than stand in this many bytes, so whole heads are judged.
+/// The fields for which the parser has room: more than stand in the most bytes of a head, so whole heads are judged.
 pub const FIELDS: usize = 2800;
 
 /// What a search for a head found: its parts, that none can come, or none so far.
@@ -64,8 +64,10 @@ fn find_head(window: &[u8], headers: &mut [HeaderSpan]) -> Head
             Status::Partial => Head::Missing,
         },
         Err(error) => match error {
+            // Cannot be, since there is room for more fields than stand in so short a window.
             Error::TooManyHeaders => Head::Missing,
             _ => {
+                // Before a line has ended nothing is refused: a head may begin with empty lines (RFC 9112, section 2.2).
                 if has_line(window) {
                     Head::Malformed
                 } else {
@@ -81,6 +83,7 @@ pub fn judge(buf: &[u8], headers: &mut [HeaderSpan]) -> Judgement
     requires { length headers.old ≡ FIELDS }
     ensures { Judges buf.now result }
 {
+    // A longer head is none, so no more is looked at: what a head costs is bounded, however many bytes have come.
     let window = &buf[..MAX_HEAD_BYTES.min(buf.len())];
     match find_head(window, headers) {
         Head::Found(spans) => match framing_of(window, spans.version, &headers[..spans.headers]) {
@@ -101,6 +104,7 @@ pub fn judge(buf: &[u8], headers: &mut [HeaderSpan]) -> Judgement
         },
         Head::Malformed => Judgement::Stop(End::BadHead),
         Head::Missing => {
+            // With the window full no further byte can make it a head.
             if buf.len() < MAX_HEAD_BYTES {
                 Judgement::Open
             } else {

@@ -10,6 +10,7 @@ use arrayvec::ArrayVec;
 /// The bytes of a short answer.
 pub type ShortText = ArrayVec<u8, MAX_SHORT_TEXT>;
 
+// A fixed array, so that there is an answer for a request that ran out of memory too.
 /// The bytes of an answer: in a fixed array, or in memory.
 #[derive(Drop)]
 pub enum Answer {

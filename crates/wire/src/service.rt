@@ -46,12 +46,13 @@ fn serve_one<D, H: Handler<D>, W: Sink>(
         &bytes[parts.head..parts.head + parts.body],
     );
     write_all(writer, answer.as_slice())?;
+    // After a failed write the message stays at the front, and the stream is over anyway.
     window.drop_front(parts.head + parts.body);
     Ok(())
 }
 
 /// Runs one iteration: reads on, and answers a message, or says why there is none.
-fn turn<D, H: Handler<D>, R: Source, W: Sink>(
+fn serve_next<D, H: Handler<D>, R: Source, W: Sink>(
     handler: &H,
     desk: &mut D,
     reader: &mut R,
@@ -105,11 +106,12 @@ pub fn serve_messages<D, H: Handler<D>, R: Source, W: Sink>(
     ensures read_count { R.failures reader.new ≡ R.failures reader.old + read_failed result }
     ensures write_count { W.failures writer.new ≡ W.failures writer.old + write_failed result }
 {
+    // All that the stream itself needs is allocated before its first byte is read: later only an answer can run out of memory.
     let Ok(mut window) = Window::new(alloc) else {
         return Err(StreamFault::Memory);
     };
     for answered in 0..MAX_MESSAGES {
-        match turn(handler, desk, reader, writer, &mut window) {
+        match serve_next(handler, desk, reader, writer, &mut window) {
             Err(fault) => return Err(fault),
             Ok(found) => {
                 if let Some(end) = found {

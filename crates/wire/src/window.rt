@@ -65,6 +65,7 @@ impl Window {
         requires { n ≤ length self.old }
         ensures { self.new ≡ drop n self.old }
     {
+        // In place, so that the room of the window stays and no later read allocates.
         self.bytes.rotate_left(n);
         let kept = self.bytes.len() - n;
         self.bytes.truncate(kept);
@@ -90,9 +91,11 @@ impl Window {
         ensures count { R.failures reader.new ≡ R.failures reader.old + read_failed result }
     {
         let mut chunk = [0u8; CHUNK];
+        // Never 0, since an open front is shorter than a message: a read of no bytes means the end.
         let room = CHUNK.min(MAX_MESSAGE_BYTES - self.bytes.len());
         match reader.read(&mut chunk[..room]) {
             Ok(n) => {
+                // Cannot fail: the window has room for a whole message from the start.
                 let _ = self.bytes.extend_from_slice(&chunk[..n]);
                 Ok(n)
             }
@@ -114,6 +117,7 @@ impl Window {
         match self.front() {
             Judgement::Whole(parts) => Ok(Some(Next::Message(parts))),
             Judgement::Stop(end) => Ok(Some(Next::Ends(end))),
+            // One read, and then the front is judged again: a client may wait for this answer before it sends more.
             Judgement::Open => match self.refill(reader) {
                 Err(fault) => Err(fault),
                 Ok(0) => Ok(Some(Next::Ends(if self.bytes().is_empty() {
@@ -137,6 +141,7 @@ impl Window {
         ensures count { R.failures reader.new ≡ R.failures reader.old + read_failed result }
     {
         'reading: loop {
+            // Where nothing is found a byte has come, and an open front is shorter than a message, so the loop ends.
             if let Some(found) = self.read_on(reader)? {
                 return Ok(found);
             }

@@ -17,6 +17,7 @@ fn write_some<W: Sink>(writer: &mut W, bytes: &[u8]) -> Result<usize, StreamFaul
 {
     match writer.write(bytes) {
         Ok(n) => {
+            // A writer that takes nothing could be asked for ever.
             if n == 0 {
                 Err(StreamFault::Write)
             } else {
@@ -38,6 +39,7 @@ pub fn write_all<W: Sink>(writer: &mut W, bytes: &[u8]) -> Result<(), StreamFaul
     ensures count_err { OnErr result (W.failures writer.new ≡ W.failures writer.old + 1) }
 {
     let mut at = 0;
+    // For no bytes no call is made: so an end without a refusal cannot fail.
     'writing: while at < bytes.len() {
         at += write_some(writer, &bytes[at..])?;
     }

@@ -14,11 +14,11 @@ IsNumberBelow bound (Number least most) = most < bound
 IsNumberBelow bound _ = ⊥
 
 -- a fault has this kind of error of `clap`'s
-abbrev pub IsToldBy : ErrorKind → LineFault → Type 0
-IsToldBy kind Memory = Unit {0}
-IsToldBy kind (Help text) = kind ≡ DisplayHelp
-IsToldBy kind (Version text) = kind ≡ DisplayVersion
-IsToldBy kind (Fault text) = (kind ≢ OutOfMemory) × (kind ≢ DisplayHelp) × (kind ≢ DisplayVersion)
+abbrev pub IsReportedBy : ErrorKind → LineFault → Type 0
+IsReportedBy kind Memory = Unit {0}
+IsReportedBy kind (Help text) = kind ≡ DisplayHelp
+IsReportedBy kind (Version text) = kind ≡ DisplayVersion
+IsReportedBy kind (Fault text) = (kind ≢ OutOfMemory) × (kind ≢ DisplayHelp) × (kind ≢ DisplayVersion)
 
 -- an error of this kind with this text is this fault
 abbrev pub IsFaultAs : ErrorKind → String Global → LineFault → Type 0

@@ -2,12 +2,12 @@
 use Rattle.std.specs.Prelude.{map}
 use Rattle.commands.specs.declared.table.Argument.{Argument as GivenArgument}
 use Rattle.commands.specs.declared.table.Described.{Described as GivenRow}
-use Rattle.commands.specs.Table.{Argument, ToldLine}
+use Rattle.commands.specs.Table.{Argument, DeclaredLine}
 
 -- what the program says of an argument
 abbrev pub argument_by : GivenArgument → Argument
 argument_by given = record { name = given.name.now; takes = given.takes; needed = given.needed }
 
 -- and of a line
-abbrev pub told_by : GivenRow → ToldLine
+abbrev pub told_by : GivenRow → DeclaredLine
 told_by given = record { name = given.name.now; arguments = map argument_by given.arguments.now }

@@ -3,7 +3,7 @@ use Rattle.std.specs.Prelude.{ℕ, IsTrue, IsErr, OnOk, Option, Result}
 use Rattle.sqlite.specs.Effect.{Database}
 use Rattle.sqlite.specs.State.{State as Seen, HasCleanDisk, Survives}
 use Rattle.tables.specs.Causes.{IsCaused}
-use Rattle.tables.specs.Steps.{IsLeft}
+use Rattle.tables.specs.Steps.{MayRecoverTo}
 use Rattle.rolls.specs.declared.refusal.Refusal.{Refusal}
 use Rattle.rolls.specs.declared.refusal.Refusal.TheVariants.{Storage}
 use Rattle.rolls.specs.declared.request.Reply.{Reply}
@@ -13,7 +13,7 @@ use Rattle.store.specs.Tables.{LeavesAlone}
 -- The tables of the one state become those of the other, where that is what the change leaves of the first and hinders it thus.
 pub record HasSettled (Leaves : Database → Database → Type 0) (Hinders : Option ℕ → Database → Type 0) (answer : Result Reply Refusal) (old new : Seen) : Type 0 where
   -- a crash leaves what it could leave before, or what the change leaves
-  pub crash : Survives old new (IsLeft Leaves old)
+  pub crash : Survives old new (MayRecoverTo Leaves old)
   -- an answered change leaves its own tables alone, over a connection that is open
   pub alone : HasCleanDisk new → OnOk answer (LeavesAlone new)
   pub stays_open : HasCleanDisk new → OnOk answer (IsTrue new.is_open)

@@ -70,10 +70,10 @@ pub record NextPrice (codes : List (List ℕ)) (prices : List (List ℤ)) (row :
   pub price : IsPrice v
 
 -- the prices of the roll at position n are read: those before are complete, and after it none was read
-abbrev pub IsTurn : ℕ → List Priced → Type 0
-IsTurn n [] = ⊥
-IsTurn zero (s ∷ ss) = AreUnpriced ss
-IsTurn (suc n) (s ∷ ss) = NoneOrAll (length s.codes) s.prices × IsTurn n ss
+abbrev pub ArePricedUpTo : ℕ → List Priced → Type 0
+ArePricedUpTo n [] = ⊥
+ArePricedUpTo zero (s ∷ ss) = AreUnpriced ss
+ArePricedUpTo (suc n) (s ∷ ss) = NoneOrAll (length s.codes) s.prices × ArePricedUpTo n ss
 
 -- the prices of the roll at position n are so
 abbrev pub At : ℕ → (Priced → Type 0) → List Priced → Type 0
@@ -109,15 +109,15 @@ Entry ProjectPrices = List ℤ
 Entry SupervisorPrices = List ℤ
 
 -- a line of the section may come: no later section has begun, and the prices of the rolls before are complete
-abbrev pub HasTurn : SectionName → Parts → Type 0
-HasTurn Aims p = (p.instance.supervisors ≡ []) × HasNoPrices p
-HasTurn Supervisors p = (p.instance.projects ≡ []) × HasNoPrices p
-HasTurn Projects p = (p.instance.students ≡ []) × HasNoPrices p
-HasTurn Students p = (p.places ≡ []) × HasNoPrices p
-HasTurn Pairs p = HasNoPrices p
-HasTurn StudentPrices p = IsTurn 0 (priced p)
-HasTurn ProjectPrices p = IsTurn 1 (priced p)
-HasTurn SupervisorPrices p = IsTurn 2 (priced p)
+abbrev pub MayComeNext : SectionName → Parts → Type 0
+MayComeNext Aims p = (p.instance.supervisors ≡ []) × HasNoPrices p
+MayComeNext Supervisors p = (p.instance.projects ≡ []) × HasNoPrices p
+MayComeNext Projects p = (p.instance.students ≡ []) × HasNoPrices p
+MayComeNext Students p = (p.places ≡ []) × HasNoPrices p
+MayComeNext Pairs p = HasNoPrices p
+MayComeNext StudentPrices p = ArePricedUpTo 0 (priced p)
+MayComeNext ProjectPrices p = ArePricedUpTo 1 (priced p)
+MayComeNext SupervisorPrices p = ArePricedUpTo 2 (priced p)
 
 -- the row is that of the entry, which comes next in the section
 abbrev pub IsNext : (s : SectionName) → Parts → Row → Entry s → Type 0

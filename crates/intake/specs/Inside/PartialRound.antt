@@ -49,16 +49,16 @@ AreComplete [] = ⊤
 AreComplete (s ∷ ss) = NoneOrAll (length s.codes) s.prices × AreComplete ss
 
 -- the prices of each roll are those of its first entries, and complete where prices of a later roll were read
-abbrev pub ArePricedInTurn : List Priced → Type 0
-ArePricedInTurn [] = ⊤
-ArePricedInTurn (s ∷ ss) = ArePricesUpTo (length s.codes) s.prices × (AreUnpriced ss ⊎ NoneOrAll (length s.codes) s.prices) × ArePricedInTurn ss
+abbrev pub ArePricedInOrder : List Priced → Type 0
+ArePricedInOrder [] = ⊤
+ArePricedInOrder (s ∷ ss) = ArePricesUpTo (length s.codes) s.prices × (AreUnpriced ss ⊎ NoneOrAll (length s.codes) s.prices) × ArePricedInOrder ss
 
 -- parts that more lines may complete
 pub record IsDraft (p : Parts) : Type 0 where
   pub instance : IsRoundInstance p.instance
   pub places : ArePlaces p.instance.students p.places
   pub last_place : EndsPlaced p.places
-  pub prices : ArePricedInTurn (priced p)
+  pub prices : ArePricedInOrder (priced p)
 
 -- a text may end here
 abbrev pub IsWhole : Parts → Type 0

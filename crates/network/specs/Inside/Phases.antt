@@ -9,7 +9,7 @@ use Rattle.network.specs.Inside.View.{IsKnownList}
 use Rattle.network.specs.Inside.Arcs.{Row, IsFormed, project_count, sink_of, flow_arcs, StudentsAmong, ProjectsAmong}
 use Rattle.network.specs.Inside.Fair.{AreStudentsFair, NodesFair, IsFair, IsLow}
 use Rattle.network.specs.Inside.Marks.{is_seen, mark_at}
-use Rattle.network.specs.Inside.Search.{turn_or, IsFound}
+use Rattle.network.specs.Inside.Search.{iteration_or, IsFound}
 use Rattle.network.specs.Inside.Labels.{AreLabels, AreBlank, MayCompare}
 use Rattle.network.specs.Inside.Seating.{numbers_at, IsSeating}
 use Rattle.network.specs.Inside.Push.{IsCounted, HasSteps}
@@ -35,16 +35,16 @@ pub record SearchingFlow {G : Type 0} (o : Ops G) (f : Flow G) (fresh : ℕ) : T
   pub low : IsLow o f
   pub waiting : slice_get f.held.items fresh ≡ Some None
 
--- pushing: the walk that was found is taken back as far as the hole, and is worth `top` to the new student
-pub record PushingFlow {G : Type 0} (o : Ops G) (f : Flow G) (marks : List (Mark G)) (fresh : ℕ) (top : G) (hole : ℕ) : Type 0 where
+-- pushing: the walk that was found is taken back as far as the node with the excess, and is worth `top` to the new student
+pub record PushingFlow {G : Type 0} (o : Ops G) (f : Flow G) (marks : List (Mark G)) (fresh : ℕ) (top : G) (excess : ℕ) : Type 0 where
   pub formed : IsFormed o f
   pub fair : IsFair o f fresh top
-  pub counted : IsCounted f hole
+  pub counted : IsCounted f excess
   pub low : IsLow o f
   pub waiting : slice_get f.held.items fresh ≡ Some None
-  pub steps : HasSteps o f marks fresh top (length marks) hole
-  pub seen : is_seen (mark_at o marks hole).origin ≡ true
-  pub turns : (b r : ℕ) → (mark_at o marks b).turn ≡ Some r → (r < length marks) × (is_seen (mark_at o marks b).origin ≡ true)
+  pub steps : HasSteps o f marks fresh top (length marks) excess
+  pub seen : is_seen (mark_at o marks excess).origin ≡ true
+  pub iterations : (b r : ℕ) → (mark_at o marks b).iteration ≡ Some r → (r < length marks) × (is_seen (mark_at o marks b).origin ≡ true)
 
 -- the residual network between two admissions: the lists next to the flow are right
 pub record BetweenResidual {G : Type 0} (o : Ops G) (r : Residual G) : Type 0 where
@@ -57,10 +57,10 @@ pub record SearchingResidual {G : Type 0} (o : Ops G) (r : Residual G) (fresh : 
   pub kept : IsSeating r.flow r.kept
 
 -- the same, pushing for some student with some worth
-pub record PushingResidual {G : Type 0} (o : Ops G) (r : Residual G) (marks : List (Mark G)) (hole : ℕ) : Type 0 where
+pub record PushingResidual {G : Type 0} (o : Ops G) (r : Residual G) (marks : List (Mark G)) (excess : ℕ) : Type 0 where
   pub fresh : ℕ
   pub top : G
-  pub flow : PushingFlow o r.flow marks fresh top hole
+  pub flow : PushingFlow o r.flow marks fresh top excess
   pub kept : IsSeating r.flow r.kept
 
 -- a search for the student may begin: the labels of the last one are gone, and this many may be compared
@@ -75,16 +75,16 @@ pub record BetweenCalls {G : Type 0} (o : Ops G) (r : Residual G) (l : Labels G)
   pub blank : AreBlank o l (length r.flow.potentials.items)
   pub few : l.compared ≤ MAX_RELAXATIONS * length r.flow.lists.items
 
--- one step of a push: the next hole was settled earlier
-pub record IsNextHole {G : Type 0} (o : Ops G) (f : Flow G) (marks : List (Mark G)) (fresh : ℕ) (top : G) (hole next : ℕ) : Type 0 where
+-- one step of a push: the next node with the excess was settled earlier
+pub record IsNextExcess {G : Type 0} (o : Ops G) (f : Flow G) (marks : List (Mark G)) (fresh : ℕ) (top : G) (excess next : ℕ) : Type 0 where
   pub pushing : PushingFlow o f marks fresh top next
-  pub falls : turn_or (length marks) (mark_at o marks next).turn < turn_or (length marks) (mark_at o marks hole).turn
+  pub falls : iteration_or (length marks) (mark_at o marks next).iteration < iteration_or (length marks) (mark_at o marks excess).iteration
 
 -- the same, with the lists next to the flow
-pub record IsStepOn {G : Type 0} (o : Ops G) (r : Residual G) (marks : List (Mark G)) (hole next : ℕ) : Type 0 where
+pub record IsStepOn {G : Type 0} (o : Ops G) (r : Residual G) (marks : List (Mark G)) (excess next : ℕ) : Type 0 where
   pub fresh : ℕ
   pub top : G
-  pub step : IsNextHole o r.flow marks fresh top hole next
+  pub step : IsNextExcess o r.flow marks fresh top excess next
   pub kept : IsSeating r.flow r.kept
 
 -- the lists, the projects and the supervisors are the same: what students hold, the counts and the potentials may differ

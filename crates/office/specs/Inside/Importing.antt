@@ -1,15 +1,15 @@
 -- Plain requests that were made one after another.
 use Rattle.std.specs.Prelude.{◌≡◌, List, None}
 use Rattle.rolls.specs.declared.request.Plain.{Plain}
-use Rattle.row_data.specs.declared.row.Change.{Change}
+use Rattle.row_model.specs.declared.row.Change.{Change}
 use Rattle.rolls.specs.State.{State}
-use Rattle.rolls.specs.Rows.{Turns}
+use Rattle.rolls.specs.Rows.{Transforms}
 use Rattle.rolls.specs.Importing.{rows_refusal, after_rows}
-use Rattle.step_laws.specs.Changes.{changes_of_rows}
+use Rattle.change_laws.specs.Changes.{changes_of_rows}
 
 -- none of them was refused, and these are their changes, which transform the rows
 pub record AreMade (rows : List Plain) (old new : State) (changes : List Change) : Type 0 where
   pub allowed : rows_refusal 1 old rows ≡ None
   pub after : new ≡ after_rows rows old
-  pub turns : Turns changes old new
+  pub transforms : Transforms changes old new
   pub exact : changes ≡ changes_of_rows rows old

@@ -7,7 +7,7 @@ ghost use Rattle.rolls.specs.Fit.{ImportFits};
 ghost use Rattle.rolls.specs.Refusing.{first, import_tests, is_other_import};
 ghost use Rattle.rolls.specs.Importing.{rows_refusal, with_import};
 ghost use Rattle.rolls.specs.Answers.{Imports};
-ghost use Rattle.step_laws.specs.Changes.{import_changes};
+ghost use Rattle.change_laws.specs.Changes.{import_changes};
 ghost use Rattle.office.specs.Inside.Importing.{AreMade};
 
 use super::Office;

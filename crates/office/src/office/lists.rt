@@ -10,10 +10,10 @@ ghost use Rattle.rolls.specs.Making.{changes_of};
 
 use super::Office;
 use crate::making::one_change;
+use change_laws::list_changes;
 use rolls::{Change, Choices, Done, Listed, Reply, Text, Texts, list_part};
 use spa::Code;
 use std::alloc::AllocError;
-use step_laws::list_changes;
 
 impl Office {
     /// Returns the codes of projects on the roll.

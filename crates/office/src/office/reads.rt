@@ -1,6 +1,6 @@
 //! Requests that read an entry.
 
-ghost use Rattle.std.specs.Prelude.{◌≡◌, IfOk, None};
+ghost use Rattle.std.specs.Prelude.{◌≡◌, IfOk, Some, None};
 ghost use Rattle.rolls.specs.State.{open_choices, placement_of};
 ghost use Rattle.rolls.specs.declared.request.Plain.TheVariants as ask;
 ghost use Rattle.rolls.specs.Refusing.{plain_refusal};
@@ -15,7 +15,7 @@ impl Office {
     /// Returns a supervisor, as answered.
     pub(crate) fn get_supervisor(&self, code: &str) -> Result<Reply, AllocError>
         requires allowed { plain_refusal self.now (ask.GetSupervisor code.now) ≡ None }
-        ensures reply { IfOk result (λ reply. reply ≡ plain_reply (ask.GetSupervisor code.now) self.now) }
+        ensures reply { IfOk result (λ reply. Some reply ≡ plain_reply (ask.GetSupervisor code.now) self.now) }
     {
         let supervisor = self.supervisors.by_code(code).unwrap();
         Ok(Reply::Supervisor {
@@ -28,7 +28,7 @@ impl Office {
     /// Returns a project, as answered.
     pub(crate) fn get_project(&self, code: &str) -> Result<Reply, AllocError>
         requires allowed { plain_refusal self.now (ask.GetProject code.now) ≡ None }
-        ensures reply { IfOk result (λ reply. reply ≡ plain_reply (ask.GetProject code.now) self.now) }
+        ensures reply { IfOk result (λ reply. Some reply ≡ plain_reply (ask.GetProject code.now) self.now) }
     {
         let project = self.projects.by_code(code).unwrap();
         Ok(Reply::Project {
@@ -65,7 +65,7 @@ impl Office {
     /// Returns a student, as answered.
     pub(crate) fn get_student(&self, code: &str) -> Result<Reply, AllocError>
         requires allowed { plain_refusal self.now (ask.GetStudent code.now) ≡ None }
-        ensures reply { IfOk result (λ reply. reply ≡ plain_reply (ask.GetStudent code.now) self.now) }
+        ensures reply { IfOk result (λ reply. Some reply ≡ plain_reply (ask.GetStudent code.now) self.now) }
     {
         let student = self.students.by_code(code).unwrap();
         Ok(Reply::Student {
@@ -78,7 +78,7 @@ impl Office {
     /// Returns a round, as answered.
     pub(crate) fn get_round(&self, round: u32) -> Reply
         requires allowed { plain_refusal self.now (ask.GetRound round) ≡ None }
-        ensures reply { result ≡ plain_reply (ask.GetRound round) self.now }
+        ensures reply { Some result ≡ plain_reply (ask.GetRound round) self.now }
     {
         let placements = self.placements.entries();
         let found = self.rounds.by_number(round).unwrap();

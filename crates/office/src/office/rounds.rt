@@ -9,10 +9,10 @@ ghost use Rattle.rolls.specs.Answers.{IsDone};
 ghost use Rattle.rolls.specs.Making.{changes_of};
 
 use super::Office;
+use change_laws::{kept_placements, opening_changes, reopening_changes};
 use rolls::{Done, Entries, Entry, Listed, Reply, Round, RoundAim};
 use spa::Aim;
 use std::alloc::AllocError;
-use step_laws::{kept_placements, opening_changes, reopening_changes};
 
 impl Office {
     /// Returns the rounds, by number.

@@ -3,8 +3,8 @@ use Rattle.tables.specs.declared.fault.TableFault.{TableFault}
 use Rattle.tables.specs.declared.fault.TableFault.TheVariants as table
 use Rattle.store.specs.declared.fault.StoreFault.{StoreFault}
 use Rattle.store.specs.declared.fault.StoreFault.TheVariants.{Damaged, Memory, Storage}
-use Rattle.from_rows.specs.declared.fault.RowsFault.{RowsFault}
-use Rattle.from_rows.specs.declared.fault.RowsFault.TheVariants as rows
+use Rattle.decoding.specs.declared.fault.RowsFault.{RowsFault}
+use Rattle.decoding.specs.declared.fault.RowsFault.TheVariants as rows
 
 -- a statement's fault
 abbrev pub of_table : TableFault → StoreFault

@@ -3,20 +3,20 @@ use Rattle.std.specs.Prelude.{◌≡◌, ◌≢◌, ◌⊎◌, [], take, ◌<◌
 use Rattle.std.specs.List.{AllByRecursion}
 use Rattle.sqlite.specs.Order.{Row as Values}
 use Rattle.sqlite.specs.Effect.{Database}
-use Rattle.row_data.specs.declared.cell.Cell.{Cell}
-use Rattle.row_data.specs.declared.cell.Cell.TheVariants.{Text, Number, Bytes}
-use Rattle.row_data.specs.declared.cell.Kind.{Kind}
-use Rattle.row_data.specs.declared.table.Table.{Table}
-use Rattle.row_data.specs.declared.row.Change.{Change}
-use Rattle.row_data.specs.Rows.{Cells, IsRow, RowOf, SameRows, are_of, of_table}
-use Rattle.row_data.specs.Changes.{after_changes}
+use Rattle.row_model.specs.declared.cell.Cell.{Cell}
+use Rattle.row_model.specs.declared.cell.Cell.TheVariants.{Text, Number, Bytes}
+use Rattle.row_model.specs.declared.cell.Kind.{Kind}
+use Rattle.row_model.specs.declared.table.Table.{Table}
+use Rattle.row_model.specs.declared.row.Change.{Change}
+use Rattle.row_model.specs.Rows.{Cells, IsRow, RowOf, SameRows, are_of, of_table}
+use Rattle.row_model.specs.Changes.{after_changes}
 use Rattle.rolls.specs.Fit.{IsFit}
 use Rattle.rolls.specs.Rows.{rows_in}
 use Rattle.rolls.specs.State.{State}
 use Rattle.editions.specs.declared.Edition.{Edition as AnEdition}
-use Rattle.editions.specs.Editions.{Allows, AreRowsIn, HaveNoLater, rows_in_edition, upgrade}
+use Rattle.editions.specs.Editions.{Allows, AreRowsIn, HaveNoLater, rows_in_edition, migrating_changes}
 use Rattle.store.specs.Tables.{HoldIn, StandsIn}
-use Rattle.store.specs.Inside.Raising.{AskRaised}
+use Rattle.store.specs.Inside.Migrating.{AskMigrated}
 use Rattle.store.specs.Rows.{IsAmong, values}
 use Rattle.sqlite.specs.Schema.{Schema}
 use Rattle.sqlite.specs.State.{State as Seen, IsUnchanged}
@@ -112,11 +112,11 @@ pub record FindsOffice (e : AnEdition) (office : State) (changes : List Change) 
   pub holds : HoldIn e old.now (rows_in_edition e office)
   pub allowed : Allows e office
   pub fit : IsFit office
-  pub asks : AskRaised changes
+  pub asks : AskMigrated changes
   pub turned : SameRows (after_changes changes (rows_in_edition e office)) (rows_in office)
   pub rows : List RowOf
   pub are : AreRowsIn e rows office
-  pub raise : changes ≡ upgrade e rows
+  pub migrate : changes ≡ migrating_changes e rows
 
 -- one of these tables holds columns that no row has
 abbrev pub HoldsUnread : List Table → Seen → Type 0

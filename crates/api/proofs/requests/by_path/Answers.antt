@@ -5,4 +5,4 @@ use Rattle.api.proofs.requests.by_path.Goals as goal
 
 pub returns-in-Ok : goal.returns-in-Ok
 returns-in-Ok c =
-    subst (λ (path : List ℕ). MatchOption c.place_of.result (IsNowhere path) (λ place. NamesBy path place.methods place.code.now)) c.in-Ok.ensures.cases.0 c.place_of.ensures
+    subst (λ (path : List ℕ). MatchOption c.route_of.result (IsNowhere path) (λ found. NamesBy path found.methods found.code.now)) c.in-Ok.ensures.cases.0 c.route_of.ensures

@@ -1,4 +1,4 @@
--- Each row of the table is the route of its place.
+-- Each row of the table is the route of its row.
 use Rattle.std.proofs.Common.{refl}
 use Rattle.api.specs.Routes.{all_routes}
 use Rattle.api.proofs.routes.routes.Goals as goal

@@ -3,7 +3,7 @@ use Rattle.sqlite.specs.Held.{Held, state}
 use Rattle.desk.specs.DeskState.{DeskState}
 use Rattle.cli.specs.Databases.{ComesFrom, DoesOver, IsDone, TakesTo}
 use Rattle.cli.proofs.Opened.{found_for, was_clean, why_unopened}
-use Rattle.cli.proofs.Writers.{refused_ends, tells_more}
+use Rattle.cli.proofs.Writers.{refused_ends, prints_more}
 use Rattle.cli.proofs.databases.do_over.Given as given
 use Rattle.cli.proofs.databases.do_over.Goals as goal
 use Rattle.cli.proofs.databases.do_over.Goals.{After-into_connection}
@@ -12,7 +12,7 @@ use Rattle.cli.proofs.databases.do_over.Goals.{After-into_connection}
 did : (g : given.Over) (c : After-into_connection g) (Done : DeskState g.row.S.Denot → DeskState g.row.S.Denot → Type 0) → Done c.in-Ok.desk c.do_at-status.new.desk
     → IsDone g.S.Store Done c.args.connection c.into_connection.result
 did g c Done done =
-    let was = was_clean g.S.Store c.args.task c.in-Ok.desk c.do_at-status.new.desk c.do_at-status.ensures.taken in
+    let was = was_clean g.S.Store (g.P.Ports.state c.args.ports) c.args.task c.in-Ok.desk c.do_at-status.new.desk c.do_at-status.ensures.taken in
     subst (λ (last : Held g.row.S.Denot). IsDone g.S.Store Done c.args.connection last) (sym c.into_connection.ensures.same)
     (record {
       desk = c.in-Ok.desk;
@@ -29,18 +29,18 @@ did g c Done done =
       stands = c.keeps-in-Ok.ensures.tables;
     })
 
-pub returns-in-Ok-clause-told : goal.returns-in-Ok-clause-told
-returns-in-Ok-clause-told g c =
-    tells_more (ComesFrom g.S.Store c.args.task c.in-Ok.desk c.do_at-status.new.desk) (DoesOver g.S.Store c.args.task c.args.connection c.into_connection.result)
-    (λ o is. inr (did g c (λ desk next. ComesFrom g.S.Store c.args.task desk next o) is)) _ _ _ c.do_at-status.ensures.told
+pub returns-in-Ok-clause-printed : goal.returns-in-Ok-clause-printed
+returns-in-Ok-clause-printed g c =
+    prints_more (ComesFrom g.S.Store (g.P.Ports.state c.args.ports) c.args.task c.in-Ok.desk c.do_at-status.new.desk) (DoesOver g.S.Store (g.P.Ports.state c.args.ports) c.args.task c.args.connection c.into_connection.result)
+    (λ o is. inr (did g c (λ desk next. ComesFrom g.S.Store (g.P.Ports.state c.args.ports) c.args.task desk next o) is)) _ _ _ c.do_at-status.ensures.printed
 
 pub returns-in-Ok-clause-left : goal.returns-in-Ok-clause-left
-returns-in-Ok-clause-left g c = inl (did g c (TakesTo g.S.Store c.args.task) c.do_at-status.ensures.taken)
+returns-in-Ok-clause-left g c = inl (did g c (TakesTo g.S.Store (g.P.Ports.state c.args.ports) c.args.task) c.do_at-status.ensures.taken)
 
-pub returns-in-Err-clause-told : goal.returns-in-Err-clause-told
-returns-in-Err-clause-told g c =
-    tells_more _ (DoesOver g.S.Store c.args.task c.args.connection c.in-Err.connection)
-    (λ o is. inl (record { refusal = c.in-Err.refusal; why = why_unopened c.in-Err.refusal (state g.S.Store c.args.connection) (state g.S.Store c.in-Err.connection) c.in-Err.ensures.refused (λ clean is. (c.in-Err.ensures.unopened.damaged clean is, c.in-Err.ensures.unopened.some is)) c.in-Err.ensures.unopened.cause; told = is; stays = c.in-Err.ensures.unopened.kept })) _ _ _ c.refuse.ensures
+pub returns-in-Err-clause-printed : goal.returns-in-Err-clause-printed
+returns-in-Err-clause-printed g c =
+    prints_more _ (DoesOver g.S.Store (g.P.Ports.state c.args.ports) c.args.task c.args.connection c.in-Err.connection)
+    (λ o is. inl (record { refusal = c.in-Err.refusal; why = why_unopened c.in-Err.refusal (state g.S.Store c.args.connection) (state g.S.Store c.in-Err.connection) c.in-Err.ensures.refused (λ clean is. (c.in-Err.ensures.unopened.damaged clean is, c.in-Err.ensures.unopened.some is)) c.in-Err.ensures.unopened.cause; printed = is; stays = c.in-Err.ensures.unopened.kept })) _ _ _ c.refuse.ensures
 
 pub returns-in-Err-clause-left : goal.returns-in-Err-clause-left
 returns-in-Err-clause-left g c = inr (refused_ends c.in-Err.refusal _ _ _ c.refuse.ensures, c.in-Err.ensures.unopened.kept)

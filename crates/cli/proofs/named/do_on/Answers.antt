@@ -1,11 +1,13 @@
-use Rattle.std.proofs.Common.{rules}
-use Rattle.sqlite.specs.Files.{file_state}
-use Rattle.cli.proofs.Opened.{of_file}
+use Rattle.sqlite.specs.Files.{file_state, over_files}
+use Rattle.cli.proofs.Opened.{left_within, of_file, tells_within}
+use Rattle.cli.proofs.Writers.{prints_more}
 use Rattle.cli.proofs.named.do_on.Goals as goal
 
 pub returns-in-Ok : goal.returns-in-Ok
 returns-in-Ok g c =
     let did = c.do_and_close-status.ensures in
+    let lent = g.W.Ports.Ports.state c.in-Ok.ports in
+    let ports = (g.W.World.state c.args.world).ports in
     record {
       first = c.in-Ok.connection;
       last = did.0;
@@ -13,10 +15,10 @@ returns-in-Ok g c =
       opened = c.in-Ok.ensures.opened;
       plain = c.in-Ok.ensures.plain;
       of_file = of_file _ c.in-Ok.connection (file_state did.0) c.in-Ok.ensures.found c.in-Ok.ensures.opened;
-      told = did.1;
-      left = did.2;
+      printed = prints_more _ _ (λ o is. tells_within over_files lent ports c.in-Ok.ensures.ports c.args.database.now c.args.task c.in-Ok.connection did.0 o is) _ _ _ did.1;
+      left = left_within over_files lent ports c.in-Ok.ensures.ports c.args.task _ c.in-Ok.connection did.0 did.2;
       closing = did.3;
     }
 
 pub returns-in-Err : goal.returns-in-Err
-returns-in-Err g c = search rules
+returns-in-Err g c = prints_more _ _ (λ o is. (c.in-Err.ensures.refused.0, c.in-Err.ensures.refused.1, c.in-Err.refusal, c.in-Err.ensures.refused.2, is)) _ _ _ c.refuse.ensures

@@ -2,15 +2,15 @@ use Rattle.std.proofs.Common.{List, String, arith, map, refl, rules, string_byte
 use Rattle.std.proofs.lemmas.Grind.{common_steps}
 use Rattle.std.specs.declared.alloc.Global.{Global}
 use Rattle.cli.specs.Outcomes.{ComesTo}
-use Rattle.cli.proofs.Writers.{tells_more}
+use Rattle.cli.proofs.Writers.{prints_more}
 use Rattle.cli.proofs.program.begin.Goals as goal
 
 pub returns-then-len-gt1-clause-line : goal.returns-then-len-gt1-clause-line
 returns-then-len-gt1-clause-line g c =
     rw c.in-Ok.is (λ _. record {
-      told = tells_more (ComesTo (map string_bytes c.deref.result.now)) (ComesTo (map string_bytes c.in-Ok.words.items))
-          (λ o is. subst (λ (ws : List (String Global)). ComesTo (map string_bytes ws) o) c.deref.ensures.value is) _ _ _ c.tell_line.ensures.told;
-      file = rw (← c.deref.ensures.value) c.tell_line.ensures.file;
+      printed = prints_more (ComesTo (map string_bytes c.deref.result.now)) (ComesTo (map string_bytes c.in-Ok.words.items))
+          (λ o is. subst (λ (ws : List (String Global)). ComesTo (map string_bytes ws) o) c.deref.ensures.value is) _ _ _ c.run_command.ensures.printed;
+      file = rw (← c.deref.ensures.value) c.run_command.ensures.file;
       unread = refl;
     })
 

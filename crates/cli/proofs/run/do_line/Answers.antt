@@ -1,24 +1,42 @@
-use Rattle.std.proofs.Common.{ℕ, List, subst}
+use Rattle.std.proofs.Common.{ℕ, List, refl, string_bytes, subst}
+use Rattle.rolls.specs.declared.request.Plain.TheVariants as plain
+use Rattle.rolls.specs.declared.request.Request.TheVariants as request
+use Rattle.cli.specs.declared.tasks.Task.TheVariants as task
 use Rattle.cli.specs.Imports.{IsImportOfFile}
-use Rattle.cli.proofs.Lines.{asked_named, done_named}
+use Rattle.cli.specs.Inside.Rounds.{ComesBy}
+use Rattle.cli.specs.declared.rounds.RoundTask.TheVariants as way
+use Rattle.cli.proofs.Lines.{asked_named, done_named, file_named}
 use Rattle.cli.proofs.run.do_line.Goals as goal
 
 pub returns-in-Serve : goal.returns-in-Serve
-returns-in-Serve g c = rw c.in-Serve.is (done_named _ _ _ _ _ _ _ _ c.deref.ensures c.do_on.ensures)
+returns-in-Serve g c = rw c.in-Serve.is (done_named (g.W.World.state c.args.world) _ _ (task.Serve (record { port = c.in-Serve.port; count = c.in-Serve.count })) c.do_on.result.1 c.args.outputs.now c.do_on.new.outputs c.do_on.result.0 c.deref.ensures c.do_on.ensures)
 
 pub returns-in-Import : goal.returns-in-Import
 returns-in-Import g c =
-    rw c.in-Import.is
-    (c.import_file.result, subst (λ (t : List ℕ). IsImportOfFile t c.in-Import.kind c.import_file.result) c.deref-in-Import-2.ensures c.import_file.ensures, asked_named _ _ _ _ _ _ _ _ c.deref-in-Import.ensures c.ask_made.ensures)
+    let holds = (g.W.World.state c.args.world).holds in
+    rw c.in-Import.is (
+      c.import_file-made.result,
+      subst (λ (t : List ℕ). IsImportOfFile (holds (string_bytes c.in-Import.file)) t c.in-Import.kind c.import_file-made.result) c.deref-in-Import.ensures
+          (subst (λ (t : List ℕ). IsImportOfFile (holds t) c.deref-in-Import.result.now c.in-Import.kind c.import_file-made.result) c.deref-in-Import-2.ensures c.import_file-made.ensures),
+      asked_named (g.W.World.state c.args.world) _ _ c.import_file-made.result c.ask_made.result.1 c.args.outputs.now c.ask_made.new.outputs c.ask_made.result.0 c.deref-in-Import-3.ensures c.ask_made.ensures,
+    )
 
 pub returns-in-OpenRound : goal.returns-in-OpenRound
-returns-in-OpenRound g c = rw c.in-OpenRound.is (done_named _ _ _ _ _ _ _ _ c.deref-in-OpenRound.ensures c.do_on-in-OpenRound.ensures)
+returns-in-OpenRound g c = rw c.in-OpenRound.is (done_named (g.W.World.state c.args.world) _ _ (task.Ask (request.Plain (plain.OpenRound c.in-OpenRound.aim))) c.do_on-in-OpenRound.result.1 c.args.outputs.now c.do_on-in-OpenRound.new.outputs c.do_on-in-OpenRound.result.0 c.deref-in-OpenRound.ensures c.do_on-in-OpenRound.ensures)
 
 pub returns-in-ReopenRound : goal.returns-in-ReopenRound
-returns-in-ReopenRound g c = rw c.in-ReopenRound.is (done_named _ _ _ _ _ _ _ _ c.deref-in-ReopenRound.ensures c.do_on-in-ReopenRound.ensures)
+returns-in-ReopenRound g c = rw c.in-ReopenRound.is (done_named (g.W.World.state c.args.world) _ _ (task.Ask (request.Plain plain.ReopenRound)) c.do_on-in-ReopenRound.result.1 c.args.outputs.now c.do_on-in-ReopenRound.new.outputs c.do_on-in-ReopenRound.result.0 c.deref-in-ReopenRound.ensures c.do_on-in-ReopenRound.ensures)
 
 pub returns-in-CloseRound : goal.returns-in-CloseRound
-returns-in-CloseRound g c = rw c.in-CloseRound.is (done_named _ _ _ _ _ _ _ _ c.deref-in-CloseRound.ensures c.do_on-in-CloseRound.ensures)
+returns-in-CloseRound g c = rw c.in-CloseRound.is (done_named (g.W.World.state c.args.world) _ _ (task.Ask request.Close) c.do_on-in-CloseRound.result.1 c.args.outputs.now c.do_on-in-CloseRound.new.outputs c.do_on-in-CloseRound.result.0 c.deref-in-CloseRound.ensures c.do_on-in-CloseRound.ensures)
 
 pub returns-in-Report : goal.returns-in-Report
-returns-in-Report g c = rw c.in-Report.is (done_named _ _ _ _ _ _ _ _ c.deref-in-Report.ensures c.do_on-in-Report.ensures)
+returns-in-Report g c = rw c.in-Report.is (done_named (g.W.World.state c.args.world) _ _ (task.Ask (request.Report c.in-Report.kind c.in-Report.round)) c.do_on-in-Report.result.1 c.args.outputs.now c.do_on-in-Report.new.outputs c.do_on-in-Report.result.0 c.deref-in-Report.ensures c.do_on-in-Report.ensures)
+
+pub returns-in-Solve : goal.returns-in-Solve
+returns-in-Solve g c =
+    rw c.in-Solve.is (refl, file_named (g.W.World.state c.args.world) _ _ (ComesBy way.Solve) c.args.outputs.now c.do_file.new.outputs c.do_file.result c.deref-in-Solve.ensures c.do_file.ensures)
+
+pub returns-in-Check : goal.returns-in-Check
+returns-in-Check g c =
+    rw c.in-Check.is (refl, file_named (g.W.World.state c.args.world) _ _ (ComesBy way.Check) c.args.outputs.now c.do_file-in-Check.new.outputs c.do_file-in-Check.result c.deref-in-Check.ensures c.do_file-in-Check.ensures)

@@ -1,37 +1,55 @@
-use Rattle.std.proofs.Common.{◌≡◌, ◌⊎◌, ◌∙◌, ap, arith, inl, inr, rules, sym, Result, Ok, Err, MatchResult}
+use Rattle.std.proofs.Common.{◌≡◌, ◌∙◌, ap, arith, inl, inr, rules, sym, ℕ, List, [], Result, Ok, Err, IfOk, IfErr, MatchResult}
+use Rattle.wire.specs.declared.outcome.Served.{Served}
+use Rattle.wire.specs.declared.outcome.StreamFault.{StreamFault}
+use Rattle.wire.specs.Run.{MessageText}
+use Rattle.world.specs.WorldState.{Found, PortState}
+use Rattle.web.specs.Connections.{Connect}
+use Rattle.web.specs.Serving.{AnswersFrom}
 use Rattle.web.proofs.OneMessage.{gets_at}
 use Rattle.cli.specs.declared.tasks.Task.TheVariants as task
 use Rattle.cli.specs.Databases.{ComesFrom}
-use Rattle.cli.specs.Outcomes.{of_answer, printed_reply, prints}
-use Rattle.cli.proofs.Writers.{tells_more}
+use Rattle.cli.specs.Outcomes.{IsServed, IsUnbound, Outcome, ServesAt, of_answer, printed_reply, prints}
+use Rattle.cli.proofs.Opened.{came_within}
+use Rattle.cli.proofs.Writers.{prints_more}
 use Rattle.cli.proofs.tasks.do_at.Goals as goal
 
 -- that it is what was printed is searched for, so that a body that prints something else is refused at it
-pub returns-in-Ok-clause-told : goal.returns-in-Ok-clause-told
-returns-in-Ok-clause-told g c =
+pub returns-in-Ok-clause-printed : goal.returns-in-Ok-clause-printed
+returns-in-Ok-clause-printed g c =
     let asked = c.in-Ask.asked in
-    let gets = gets_at g.S.Store c.args.desk.now c.ask.new.self asked c.ask.result c.ask.ensures.step c.ask.ensures.told c.ask.ensures.at_once c.ask.ensures.session c.ask.ensures.saved.cause in
-    rw c.in-Ask.is (tells_more (λ o. o ≡ prints (printed_reply c.in-Ok.reply)) (ComesFrom g.S.Store (task.Ask asked) c.args.desk.now c.ask.new.self) (λ o is. (c.ask.result, gets, is ∙ ap of_answer (sym c.in-Ok.is))) _ _ _ (search rules depth 2))
+    let gets = gets_at g.S.Store c.args.desk.now c.ask.new.self asked c.ask.result c.ask.ensures.step c.ask.ensures.at_once c.ask.ensures.session c.ask.ensures.saved.cause in
+    rw c.in-Ask.is (prints_more (λ o. o ≡ prints (printed_reply c.in-Ok.reply)) (ComesFrom g.S.Store (g.P.Ports.state c.args.ports) (task.Ask asked) c.args.desk.now c.ask.new.self) (λ o is. (c.ask.result, gets, is ∙ ap of_answer (sym c.in-Ok.is))) _ _ _ (search rules depth 2))
 
-pub returns-in-Err-clause-told : goal.returns-in-Err-clause-told
-returns-in-Err-clause-told g c =
+pub returns-in-Ask-clause-printed : goal.returns-in-Ask-clause-printed
+returns-in-Ask-clause-printed g c =
     let asked = c.in-Ask.asked in
-    let gets = gets_at g.S.Store c.args.desk.now c.ask.new.self asked c.ask.result c.ask.ensures.step c.ask.ensures.told c.ask.ensures.at_once c.ask.ensures.session c.ask.ensures.saved.cause in
-    rw c.in-Ask.is (tells_more _ (ComesFrom g.S.Store (task.Ask asked) c.args.desk.now c.ask.new.self) (λ o is. (c.ask.result, gets, is ∙ ap of_answer (sym c.in-Err.is))) _ _ _ c.refuse.ensures)
+    let gets = gets_at g.S.Store c.args.desk.now c.ask.new.self asked c.ask.result c.ask.ensures.step c.ask.ensures.at_once c.ask.ensures.session c.ask.ensures.saved.cause in
+    rw c.in-Ask.is (prints_more _ (ComesFrom g.S.Store (g.P.Ports.state c.args.ports) (task.Ask asked) c.args.desk.now c.ask.new.self) (λ o is. (c.ask.result, gets, is ∙ ap of_answer (sym c.in-Err.is))) _ _ _ c.refuse.ensures)
 
 pub returns-in-Ok-clause-taken : goal.returns-in-Ok-clause-taken
 returns-in-Ok-clause-taken g c = rw c.in-Ask.is (c.ask.result, c.ask.ensures.step, λ clean. omega (arith, clean, c.ask.ensures.saved.crash.clean))
 
-pub returns-in-Err-clause-taken : goal.returns-in-Err-clause-taken
-returns-in-Err-clause-taken g c = rw c.in-Ask.is (c.ask.result, c.ask.ensures.step, λ clean. omega (arith, clean, c.ask.ensures.saved.crash.clean))
+pub returns-in-Ask-clause-taken : goal.returns-in-Ask-clause-taken
+returns-in-Ask-clause-taken g c = rw c.in-Ask.is (c.ask.result, c.ask.ensures.step, λ clean. omega (arith, clean, c.ask.ensures.saved.crash.clean))
 
--- whether the port was bound or not
-either : {A E : Type 0} (bound : Result A E) (P Q : Type 0) → MatchResult bound (λ _. P) (λ _. Q) → Q ⊎ P
-either (Ok a) P Q p = inr p
-either (Err e) P Q q = inl q
+module _ {A E D : Type 0} (step : D → MessageText → List ℕ → D → Type 0) (at : PortState) (comes : A → ℕ → Found → Type 0) (before after : D) where
+  -- whether the port was bound or not
+  serves : (bound : Result A E) (port count : ℕ) (o : Outcome) → IfOk bound (λ a. (n : ℕ) (found : Found) → comes a n found → at.comes n found) → IfErr bound (λ _. at.is_taken)
+      → MatchResult bound (λ a. IsServed step (comes a) port count before after o) (λ _. IsUnbound port before after o) → ServesAt step at port count before after o
+  serves (Ok a) port count o of taken is = inr (record { came = is.came; counted = is.counted; served = came_within step (comes a) at.comes of before after is.came is.served; is = is.is })
+  serves (Err e) port count o of taken is = inl (taken, is)
 
-pub returns-in-Serve-clause-told : goal.returns-in-Serve-clause-told
-returns-in-Serve-clause-told g c = rw c.in-Serve.is (tells_more _ _ (λ o is. either c.bind-bound.result _ _ is) _ _ _ c.serve_bound.ensures.told)
+  takes : (bound : Result A E) → IfOk bound (λ a. (n : ℕ) (found : Found) → comes a n found → at.comes n found) → IfOk bound (λ a. (came : List (Result Served StreamFault)) × Connect step (comes a) before came after)
+      → IfErr bound (λ _. after ≡ before) → (came : List (Result Served StreamFault)) × Connect step at.comes before came after
+  takes (Ok a) of served none = (served.0, came_within step (comes a) at.comes of before after served.0 served.1)
+  takes (Err e) of served none = ([], none)
 
-pub returns-in-Serve-clause-taken : goal.returns-in-Serve-clause-taken
-returns-in-Serve-clause-taken g c = rw c.in-Serve.is c.serve_bound.ensures.served
+pub returns-clause-printed : goal.returns-clause-printed
+returns-clause-printed g c =
+    rw c.in-Serve.is
+    (prints_more _ _ (λ o is. serves (AnswersFrom g.S.Store) (g.P.Ports.state c.args.ports c.in-Serve.serving.port) g.P.Door.Door.comes _ _ c.bind-bound.result _ _ o c.bind-bound.ensures.bound c.bind-bound.ensures.taken is) _ _ _ c.serve_bound.ensures.printed)
+
+pub returns-clause-taken : goal.returns-clause-taken
+returns-clause-taken g c =
+    rw c.in-Serve.is
+    (takes (AnswersFrom g.S.Store) (g.P.Ports.state c.args.ports c.in-Serve.serving.port) g.P.Door.Door.comes _ _ c.bind-bound.result c.bind-bound.ensures.bound c.serve_bound.ensures.served c.serve_bound.ensures.unbound)

@@ -5,7 +5,7 @@ use Rattle.commands.specs.Program.{with_argument}
 use Rattle.commands.specs.Inside.Table.{argument_by}
 use Rattle.commands.proofs.program.subcommand.Given as goal
 
-abbrev pub invariant-loop-told : goal.invariant-loop-told
-invariant-loop-told l =
-    (app_of l.command ≡ fold (λ app a. with_argument l.fn.kinds app (argument_by a)) (new_app l.fn.row.name.now) (take l.told-index l.fn.row.arguments.now))
+abbrev pub invariant-loop-declarations : goal.invariant-loop-declarations
+invariant-loop-declarations l =
+    (app_of l.command ≡ fold (λ app a. with_argument l.fn.kinds app (argument_by a)) (new_app l.fn.row.name.now) (take l.declarations-index l.fn.row.arguments.now))
     × ((out-Command l.command).has_globals ≡ false)

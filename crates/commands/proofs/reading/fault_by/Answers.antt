@@ -1,8 +1,8 @@
 use Rattle.std.proofs.Common.{subst}
 use Rattle.clap.specs.declared.error.kind.ErrorKind.{ErrorKind}
-use Rattle.commands.specs.Inside.Reading.{IsToldBy}
+use Rattle.commands.specs.Inside.Reading.{IsReportedBy}
 use Rattle.commands.proofs.Faults.{told_by}
 use Rattle.commands.proofs.reading.fault_by.Goals as goal
 
 pub returns : goal.returns
-returns c = subst (λ (k : ErrorKind). IsToldBy k c.fault_as.result) c.kind.ensures (told_by c.kind.result c.to_string.result _ c.fault_as.ensures)
+returns c = subst (λ (k : ErrorKind). IsReportedBy k c.fault_as.result) c.kind.ensures (told_by c.kind.result c.to_string.result _ c.fault_as.ensures)

@@ -4,16 +4,16 @@ use Rattle.std.specs.Str.{bytes_eq}
 use Rattle.std.proofs.lemmas.Slice.Eq.{bytes_eq-Decides}
 use Rattle.clap.specs.Words.{Text}
 use Rattle.commands.specs.Reading.{Each}
-use Rattle.commands.specs.Table.{ToldLine, lines}
+use Rattle.commands.specs.Table.{DeclaredLine, lines}
 use Rattle.commands.proofs.reading.line_of.Goals as goal
 
 -- no line is found by a name that none has
-none_named : (P : ToldLine → Type 0) (name : Text) (told : List ToldLine) → Each (λ line. name ≢ line.name) told → IsSomeAnd (find (λ line. bytes_eq line.name name) told) P → ⊥
+none_named : (P : DeclaredLine → Type 0) (name : Text) (declarations : List DeclaredLine) → Each (λ line. name ≢ line.name) declarations → IsSomeAnd (find (λ line. bytes_eq line.name name) declarations) P → ⊥
 none_named P name [] others h = h
-none_named P name (line ∷ told) others h = go (bytes_eq line.name name) refl (none_named P name told others.1) h
+none_named P name (line ∷ declarations) others h = go (bytes_eq line.name name) refl (none_named P name declarations others.1) h
   where
-    go : (b : Bool) → bytes_eq line.name name ≡ b → (IsSomeAnd (find (λ line. bytes_eq line.name name) told) P → ⊥)
-        → IsSomeAnd (cond b (Some line) (find (λ line. bytes_eq line.name name) told)) P → ⊥
+    go : (b : Bool) → bytes_eq line.name name ≡ b → (IsSomeAnd (find (λ line. bytes_eq line.name name) declarations) P → ⊥)
+        → IsSomeAnd (cond b (Some line) (find (λ line. bytes_eq line.name name) declarations)) P → ⊥
     go true is none h = others.0 (sym ((bytes_eq-Decides line.name name).0 is))
     go false is none h = none h
 

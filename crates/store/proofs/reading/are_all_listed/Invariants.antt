@@ -1,6 +1,6 @@
 use Rattle.std.proofs.Common.{take}
 use Rattle.sqlite_rules.specs.Lists.{Has}
-use Rattle.row_data.specs.declared.table.Table.{Table}
+use Rattle.row_model.specs.declared.table.Table.{Table}
 use Rattle.store.specs.Inside.Reading.{IsListedAlone}
 use Rattle.store.proofs.reading.are_all_listed.Given as goal
 

@@ -1,9 +1,9 @@
 use Rattle.std.proofs.Common.{◌≡◌, Err, List, subst, sym, rules}
 use Rattle.sqlite.specs.Held.{state}
-use Rattle.row_data.specs.declared.row.Change.{Change}
-use Rattle.row_data.specs.Rows.{RowOf}
+use Rattle.row_model.specs.declared.row.Change.{Change}
+use Rattle.row_model.specs.Rows.{RowOf}
 use Rattle.rolls.specs.Rows.{AreRowsOf}
-use Rattle.editions.specs.Editions.{upgrade}
+use Rattle.editions.specs.Editions.{migrating_changes}
 use Rattle.store.specs.Inside.Reading.{FindsOffice}
 use Rattle.store.specs.declared.fault.StoreFault.TheVariants.{Damaged}
 use Rattle.store.proofs.FoundOffice.{found_in}
@@ -14,9 +14,9 @@ returns-clause-ok g c clean =
     let e = c.args.edition in
     let rows = c.in_ok-rows.rows.items in
     let office = c.in_ok-office.office in
-    let made : c.in_ok-changes.changes.items ≡ upgrade e rows = rw c.deref.ensures.value at c.in_ok-changes.ensures in
+    let made : c.in_ok-changes.changes.items ≡ migrating_changes e rows = rw c.deref.ensures.value at c.in_ok-changes.ensures in
     subst (λ (changes : List Change). FindsOffice e office changes (state g.S.Store c.args.conn.now) (state g.S.Store c.rows_in.new.conn)) (sym made)
-    (found_in c.renewal_law.ensures c.upgrade_law.ensures e rows office _ _ (c.in_ok-rows.ensures.rows clean) c.fit.ensures.fit (subst (λ (it : List RowOf). AreRowsOf it office) c.in_ok-all.ensures c.in_ok-office.ensures.rows))
+    (found_in c.migrated_rows_law.ensures c.migrating_changes_law.ensures e rows office _ _ (c.in_ok-rows.ensures.rows clean) c.fit.ensures.fit (subst (λ (it : List RowOf). AreRowsOf it office) c.in_ok-all.ensures c.in_ok-office.ensures.rows))
 
 pub returns-clause-same : goal.returns-clause-same
 returns-clause-same g c clean = (c.in_ok-rows.ensures.rows clean).same
@@ -27,4 +27,4 @@ returns-in_err-office-clause-damaged g c clean h o fit stands =
     let rows = c.in_ok-rows.rows.items in
     let was : c.office_from.result ≡ Err Damaged = search rules in
     let held = c.in_ok-rows.ensures.rows clean in
-    c.office_from.ensures.unfit was o fit (subst (λ (it : List RowOf). AreRowsOf it o) (sym c.in_ok-all.ensures) ((c.renewal_law.ensures e rows o held.none_later fit).0 (held.are o stands)))
+    c.office_from.ensures.unfit was o fit (subst (λ (it : List RowOf). AreRowsOf it o) (sym c.in_ok-all.ensures) ((c.migrated_rows_law.ensures e rows o held.none_later fit).0 (held.are o stands)))

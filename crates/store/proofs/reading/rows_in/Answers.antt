@@ -3,7 +3,7 @@ use Rattle.sqlite.specs.Order.{Row as Values}
 use Rattle.sqlite.specs.State.{HasCleanDisk}
 use Rattle.sqlite.specs.Held.{state}
 use Rattle.tables.proofs.Runs.{rests_then, survives_both}
-use Rattle.row_data.specs.declared.table.Table.TheVariants.{Edition}
+use Rattle.row_model.specs.declared.table.Table.TheVariants.{Edition}
 use Rattle.store.specs.declared.fault.StoreFault.TheVariants.{Damaged, Storage}
 use Rattle.store.specs.Editions.{number_of, rolls_of}
 use Rattle.store.specs.Tables.{numbered}

@@ -22,6 +22,9 @@ enter_cells-requires-in-Add g c = rw (c.table-in-Add.ensures, c.cells-in-Add.ens
 pub leave_cells-requires : goal.leave_cells-requires
 leave_cells-requires g c = rw (c.group.ensures, c.cells-in-Remove.ensures.cells) (is_part _ c.cells-in-Remove.ensures.part)
 
+pub returns-in-Put-clause-ran : goal.returns-in-Put-clause-ran
+returns-in-Put-clause-ran g c = rw c.in-Put.is (rw (c.table.ensures, c.cells.ensures.cells) at c.enter_cells.ensures.ran)
+
 pub returns-in-Put-clause-cause : goal.returns-in-Put-clause-cause
 returns-in-Put-clause-cause g c = rw c.in-Put.is (rw (c.table.ensures, c.cells.ensures.cells) at c.enter_cells.ensures.cause)
 
@@ -33,3 +36,6 @@ returns-in-Add-clause-told g c = rw c.in-Add.is (rw (c.table-in-Add.ensures, c.c
 
 pub returns-in-Add-clause-cause : goal.returns-in-Add-clause-cause
 returns-in-Add-clause-cause g c = rw c.in-Add.is (rw (c.table-in-Add.ensures, c.cells-in-Add.ensures.cells) at c.enter_cells-in-Add.ensures.cause)
+
+pub returns-in-Remove-clause-ran : goal.returns-in-Remove-clause-ran
+returns-in-Remove-clause-ran g c = rw c.in-Remove.is (rw (c.group.ensures, c.cells-in-Remove.ensures.cells) at c.leave_cells.ensures.ran)

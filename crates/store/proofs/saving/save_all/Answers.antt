@@ -7,7 +7,7 @@ use Rattle.store.specs.Causes.{IsHinderedAmong, IsHinderedToSave}
 use Rattle.store.specs.Saving.{Applies}
 use Rattle.store.proofs.Causes.{of_storage}
 use Rattle.store.proofs.Commit.{left_after, dropped_by}
-use Rattle.store.proofs.Raised.{stopped_after_all}
+use Rattle.store.proofs.Migrated.{stopped_after_all}
 use Rattle.store.proofs.saving.save_all.Goals as goal
 
 pub returns-in_err-need_open-clause-cause : goal.returns-in_err-need_open-clause-cause

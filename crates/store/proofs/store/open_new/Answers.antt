@@ -4,19 +4,19 @@ use Rattle.store.specs.declared.fault.StoreFault.TheVariants.{Storage}
 use Rattle.store.proofs.NewTables.{opens_new, founds_left, founds_others}
 use Rattle.store.proofs.Opening.{unopened_by}
 use Rattle.tables.proofs.Causes.{stopped_as}
-use Rattle.store.specs.Causes.{IsHinderedFounding, IsHinderedOpening}
+use Rattle.store.specs.Causes.{IsHinderedCreating, IsHinderedOpening}
 use Rattle.store.proofs.store.open_new.Goals as goal
 
-pub returns-in_err-found-clause-unopened : goal.returns-in_err-found-clause-unopened
-returns-in_err-found-clause-unopened g c = unopened_by _ _ _ (record {
-  damaged = λ clean is. absurd (c.found.ensures.faults (search rules));
-  some = λ is. absurd (c.found.ensures.faults (search rules));
+pub returns-in_err-create_tables-clause-unopened : goal.returns-in_err-create_tables-clause-unopened
+returns-in_err-create_tables-clause-unopened g c = unopened_by _ _ _ (record {
+  damaged = λ clean is. absurd (c.create_tables.ensures.faults (search rules));
+  some = λ is. absurd (c.create_tables.ensures.faults (search rules));
   kept = λ clean. search rules;
   cause = λ settled clean h.
-      let was : c.found.result ≡ Err Storage = search rules in
-      stopped_as IsHinderedFounding IsHinderedOpening _ _ (λ it. inl (c.requires.none, it)) (c.found.ensures.cause settled clean was);
-  given_back = λ settled. c.found.ensures.ended settled;
-  crash = survives_weaker _ _ _ _ (λ clean trees h. founds_left _ trees c.requires.none h) c.found.ensures.crash;
+      let was : c.create_tables.result ≡ Err Storage = search rules in
+      stopped_as IsHinderedCreating IsHinderedOpening _ _ (λ it. inl (c.requires.none, it)) (c.create_tables.ensures.cause settled clean was);
+  given_back = λ settled. c.create_tables.ensures.ended settled;
+  crash = survives_weaker _ _ _ _ (λ clean trees h. founds_left _ trees c.requires.none h) c.create_tables.ensures.crash;
 })
 
 -- That they were made is searched for, so that a body that makes none is refused at it.
@@ -24,10 +24,10 @@ pub returns-clause-opened : goal.returns-clause-opened
 returns-clause-opened g c = record {
   office = λ clean. opens_new _ _ _ c.requires.none c.new.ensures.empty (search rules);
   others = λ clean. founds_others _ _ (search rules);
-  ended = c.found.ensures.ended c.requires.idle;
+  ended = c.create_tables.ensures.ended c.requires.idle;
   alone = λ clean trees h. search rules;
   is_open = λ clean. search rules;
-  crash = survives_weaker _ _ _ _ (λ clean trees h. founds_left _ trees c.requires.none h) c.found.ensures.crash;
+  crash = survives_weaker _ _ _ _ (λ clean trees h. founds_left _ trees c.requires.none h) c.create_tables.ensures.crash;
 }
 
 pub returns-clause-unopened : goal.returns-clause-unopened

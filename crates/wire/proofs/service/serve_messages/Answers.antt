@@ -8,7 +8,7 @@ use Rattle.wire.specs.Inside.Served.{SoFar}
 use Rattle.wire.specs.Served.{ServedTo}
 use Rattle.wire.proofs.Runs.{nothing_yet, hundred_here}
 use Rattle.wire.proofs.ReaderEnd.{at_none}
-use Rattle.wire.proofs.Turns.{same_read, same_write, last_read, last_written, ended, nothing_served}
+use Rattle.wire.proofs.OneMessage.{same_read, same_write, last_read, last_written, ended, nothing_served}
 use Rattle.wire.proofs.service.serve_messages.Goals as goal
 
 -- at first nothing was read, asked or written
@@ -24,8 +24,8 @@ loop-answered-init g c = record {
   writes = refl;
 }
 
-pub turn-requires-clause-write_failures : goal.turn-requires-clause-write_failures
-turn-requires-clause-write_failures g c = subst (λ (n : ℕ). n < 2 ^ 64 - 1) (sym c.loop-answered.invariant.writes) c.requires.write_failures
+pub serve_next-requires-clause-write_failures : goal.serve_next-requires-clause-write_failures
+serve_next-requires-clause-write_failures g c = subst (λ (n : ℕ). n < 2 ^ 64 - 1) (sym c.loop-answered.invariant.writes) c.requires.write_failures
 
 pub returns-in-Err-clause-write_count : goal.returns-in-Err-clause-write_count
 returns-in-Err-clause-write_count g c = same_write (Option End) Served c.in-Err.fault _ _ _ c.in-Err.ensures.write_count c.loop-answered.invariant.writes
@@ -44,12 +44,12 @@ at_end P found end e h = subst (λ (o : Option End). IfSome o P) e h
 
 pub returns-in-Some-clause-served : goal.returns-in-Some-clause-served
 returns-in-Some-clause-served g c =
-    ended g.H.Handler.step g.H.Handler.refusal c.args.desk.now c.turn.new.desk c.loop-answered.desk (g.R.Source.left c.args.reader.now) (g.W.Sink.written c.args.writer.now)
-    (g.R.Source.left c.loop-answered.reader) (g.R.Source.left c.turn.new.reader) (g.W.Sink.written c.loop-answered.writer) (g.W.Sink.written c.turn.new.writer)
+    ended g.H.Handler.step g.H.Handler.refusal c.args.desk.now c.serve_next.new.desk c.loop-answered.desk (g.R.Source.left c.args.reader.now) (g.W.Sink.written c.args.writer.now)
+    (g.R.Source.left c.loop-answered.reader) (g.R.Source.left c.serve_next.new.reader) (g.W.Sink.written c.loop-answered.writer) (g.W.Sink.written c.serve_next.new.writer)
     (g.W.Sink.written c.finish.new.writer)
-    c.loop-answered.window c.turn.new.window c.loop-answered.answered c.in-Some.end c.finish.result
+    c.loop-answered.window c.serve_next.new.window c.loop-answered.answered c.in-Some.end c.finish.result
     c.loop-answered.invariant.so_far c.loop-answered-test.true
-    (at_end _ c.in-Ok-turn.found c.in-Some.end c.in-Some.is c.in-Ok-turn.ensures.ends) c.finish.ensures.ok c.finish.ensures.wrote c.finish.ensures.fault c.finish.ensures.err
+    (at_end _ c.in-Ok-serve_next.found c.in-Some.end c.in-Some.is c.in-Ok-serve_next.ensures.ends) c.finish.ensures.ok c.finish.ensures.wrote c.finish.ensures.fault c.finish.ensures.err
 
 pub returns-in_default-clause-served : goal.returns-in_default-clause-served
 returns-in_default-clause-served g c = nothing_served g.H.Handler.step g.H.Handler.refusal c.args.desk.now (g.R.Source.left c.args.reader.now) (g.W.Sink.written c.args.writer.now)
@@ -78,26 +78,26 @@ stays new old start e h = omega arith
 
 pub loop-answered-preserved : goal.loop-answered-preserved
 loop-answered-preserved g c = record {
-  so_far = (at_none _ c.in-Ok-turn.found c.in_default-found.is c.in-Ok-turn.ensures.answers).1 c.args.desk.now (g.R.Source.left c.args.reader.now) (g.W.Sink.written c.args.writer.now)
+  so_far = (at_none _ c.in-Ok-serve_next.found c.in_default-found.is c.in-Ok-serve_next.ensures.answers).1 c.args.desk.now (g.R.Source.left c.args.reader.now) (g.W.Sink.written c.args.writer.now)
       c.loop-answered.answered c.loop-answered.invariant.so_far;
-  goes_on = (at_none _ c.in-Ok-turn.found c.in_default-found.is c.in-Ok-turn.ensures.answers).0;
-  reads = stays _ _ _ c.in-Ok-turn.ensures.read_count c.loop-answered.invariant.reads;
-  writes = stays _ _ _ c.in-Ok-turn.ensures.write_count c.loop-answered.invariant.writes;
+  goes_on = (at_none _ c.in-Ok-serve_next.found c.in_default-found.is c.in-Ok-serve_next.ensures.answers).0;
+  reads = stays _ _ _ c.in-Ok-serve_next.ensures.read_count c.loop-answered.invariant.reads;
+  writes = stays _ _ _ c.in-Ok-serve_next.ensures.write_count c.loop-answered.invariant.writes;
 }
 
 pub finish-requires-clause-failures : goal.finish-requires-clause-failures
 finish-requires-clause-failures g c =
-    subst (λ (n : ℕ). n < 2 ^ 64 - 1) (sym (stays _ _ _ c.in-Ok-turn.ensures.write_count c.loop-answered.invariant.writes)) c.requires.write_failures
+    subst (λ (n : ℕ). n < 2 ^ 64 - 1) (sym (stays _ _ _ c.in-Ok-serve_next.ensures.write_count c.loop-answered.invariant.writes)) c.requires.write_failures
 
 pub returns-in-Some-clause-write_count : goal.returns-in-Some-clause-write_count
 returns-in-Some-clause-write_count g c =
-    last_written c.finish.result _ _ _ (stays _ _ _ c.in-Ok-turn.ensures.write_count c.loop-answered.invariant.writes) c.finish.ensures.fault c.finish.ensures.count_ok c.finish.ensures.count_err
+    last_written c.finish.result _ _ _ (stays _ _ _ c.in-Ok-serve_next.ensures.write_count c.loop-answered.invariant.writes) c.finish.ensures.fault c.finish.ensures.count_ok c.finish.ensures.count_err
 
 pub returns-in-Err-clause-read_count : goal.returns-in-Err-clause-read_count
 returns-in-Err-clause-read_count g c = same_read (Option End) Served c.in-Err.fault _ _ _ c.in-Err.ensures.read_count c.loop-answered.invariant.reads
 
 pub returns-in-Some-clause-read_count : goal.returns-in-Some-clause-read_count
-returns-in-Some-clause-read_count g c = last_read c.finish.result _ _ (stays _ _ _ c.in-Ok-turn.ensures.read_count c.loop-answered.invariant.reads) c.finish.ensures.fault
+returns-in-Some-clause-read_count g c = last_read c.finish.result _ _ (stays _ _ _ c.in-Ok-serve_next.ensures.read_count c.loop-answered.invariant.reads) c.finish.ensures.fault
 
 pub loop-answered-smaller : goal.loop-answered-smaller
 loop-answered-smaller g c = omega (arith, c.loop-answered-test.true)

@@ -1,7 +1,7 @@
-use Rattle.std.proofs.Common.{◌≡◌, Err, Some, refl, sym, ap, ◌∙◌, rules}
+use Rattle.std.proofs.Common.{◌≡◌, inl, Err, Some, refl, sym, ap, ◌∙◌, rules}
 use Rattle.sqlite.specs.Held.{state}
 use Rattle.rolls.specs.Refusing.{refusal_of}
-use Rattle.desk.proofs.Asked.{idle_saved, named_right, named_unstored}
+use Rattle.desk.proofs.Asked.{idle_saved, named_unstored}
 use Rattle.desk.proofs.desk.Desk.ask.Given as given
 use Rattle.desk.proofs.desk.Desk.ask.Goals as goal
 use Rattle.desk.proofs.desk.Desk.ask.Goals.{Joined-request}
@@ -12,11 +12,11 @@ returns-in-Some-clause-session g c = search rules depth 3
 -- the refusal that was found is the one that is due
 found : (g : given.Over) (c : Joined-request g) → refusal_of c.args.self.now.office c.args.request ≡ Some c.in-Some.refusal
 found g c =
-    let same = ap (λ d. let books = d.books in books.office) c.self-inside.view_is ∙ ap (λ k. k.office) c.self.view_is in
+    let same = ap (λ d. let persistent = d.persistent in persistent.office) c.self-inside.view_is ∙ ap (λ k. k.office) c.self.view_is in
     sym (c.refusal_of.ensures.refusal ∙ ap (λ o. refusal_of o c.args.request) same) ∙ c.in-Some.is
 
-pub returns-in-Some-clause-told : goal.returns-in-Some-clause-told
-returns-in-Some-clause-told g c = named_right c.args.self.now.office c.args.request c.in-Some.refusal (found g c)
+pub returns-in-Some-clause-step : goal.returns-in-Some-clause-step
+returns-in-Some-clause-step g c = (refl, inl (found g c))
 
 pub returns-in-Some-clause-saved : goal.returns-in-Some-clause-saved
 returns-in-Some-clause-saved g c =

@@ -2,7 +2,7 @@ use Rattle.std.proofs.Common.{◌+◌, ◌≤◌, length, vec_len, IsTrue}
 use Rattle.std.specs.Vec.{vec_capacity}
 use Rattle.sqlite.specs.State.{HasCleanDisk, Survives}
 use Rattle.sqlite.specs.Held.{state}
-use Rattle.tables.specs.Steps.{IsLeft}
+use Rattle.tables.specs.Steps.{MayRecoverTo}
 use Rattle.desk.specs.Keeping.{Begins, Keeps, StandsForOne}
 use Rattle.desk.proofs.Runs.{HasRun, HasRunOn}
 use Rattle.desk.proofs.desk.Desk.run.Given as goal
@@ -14,7 +14,7 @@ invariant-loop-request g l = record {
   rest : HasRun l.fn.self.office l.fn.requests.items l.request-iterator.rest.items l.answers.items l.self.office;
   goes : HasRunOn l.fn.self.office l.fn.self.session l.fn.requests.items l.request-iterator.rest.items l.answers.items l.self.office l.self.session;
   tables : Keeps (state g.S.Store l.self.store) l.self.office;
-  crash : Survives (state g.S.Store l.fn.self.store) (state g.S.Store l.self.store) (IsLeft (λ _. StandsForOne (Begins l.fn.self.office l.fn.requests.items l.answers.items)) (state g.S.Store l.fn.self.store));
+  crash : Survives (state g.S.Store l.fn.self.store) (state g.S.Store l.self.store) (MayRecoverTo (λ _. StandsForOne (Begins l.fn.self.office l.fn.requests.items l.answers.items)) (state g.S.Store l.fn.self.store));
   shut : HasCleanDisk (state g.S.Store l.self.store) → IsTrue (state g.S.Store l.self.store).is_open → IsTrue (state g.S.Store l.fn.self.store).is_open;
   room : vec_len l.answers + length l.request-iterator.rest.items ≤ vec_capacity l.answers;
 }

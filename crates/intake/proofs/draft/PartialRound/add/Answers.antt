@@ -17,12 +17,12 @@ returns-in_default-section_of c = no_line _ _ c.requires.draft c.requires.fields
     let same : l ≡ c.in-Some.letter.now.now = first_field _ _ _ _ (sym e ∙ fields) in
     λ f. c.in_default-section_of.ensures s (sym same ∙ f))
 
-pub returns-then-not-has_turn : goal.returns-then-not-has_turn
-returns-then-not-has_turn c = no_turn c.in-Some-section_of.section _ c.args.fields.now c.in-Some.letter.now c.in-Some.row.now c.requires.draft c.requires.fields c.in-Some.ensures.cases.0 c.in-Some-section_of.ensures (λ turn. let yes = c.has_turn.ensures.1 turn in let other = c.if-not-has_turn.true in cc)
+pub returns-then-not-may_come_next : goal.returns-then-not-may_come_next
+returns-then-not-may_come_next c = no_turn c.in-Some-section_of.section _ c.args.fields.now c.in-Some.letter.now c.in-Some.row.now c.requires.draft c.requires.fields c.in-Some.ensures.cases.0 c.in-Some-section_of.ensures (λ turn. let yes = c.may_come_next.ensures.1 turn in let other = c.if-not-may_come_next.true in cc)
 
 pub returns : goal.returns
 returns c =
     IfOk-weaker c.add_to.result (λ b. AddsEntry c.in-Some-section_of.section (draft_of c.args.self.now) (map (λ f. f.now) c.in-Some.row.now) (draft_of c.add_to.new.self) b) (λ b. AddsLine (draft_of c.args.self.now) (line_of (map (λ f. f.now) c.args.fields.now)) (draft_of c.add_to.new.self) b)
     (λ b h. moved_line (draft_of c.args.self.now) (draft_of c.add_to.new.self) b c.args.fields.now c.in-Some.letter.now c.in-Some.row.now (letter_of c.in-Some-section_of.section) c.in-Some.ensures.cases.0 c.in-Some-section_of.ensures
-    (section_line c.in-Some-section_of.section _ _ _ b c.requires.draft (fields_after c.args.fields.now c.in-Some.letter.now c.in-Some.row.now c.in-Some.ensures.cases.0 c.requires.fields) (c.has_turn.ensures.0 c.if-not-has_turn.false) h))
+    (section_line c.in-Some-section_of.section _ _ _ b c.requires.draft (fields_after c.args.fields.now c.in-Some.letter.now c.in-Some.row.now c.in-Some.ensures.cases.0 c.requires.fields) (c.may_come_next.ensures.0 c.if-not-may_come_next.false) h))
     c.add_to.ensures

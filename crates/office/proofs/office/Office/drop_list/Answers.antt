@@ -4,7 +4,7 @@ use Rattle.rolls.specs.declared.rounds.Listed.{Listed}
 use Rattle.rolls.specs.Roll.{put, take_out}
 use Rattle.rolls.specs.State.{list_key, round_key}
 use Rattle.rolls.specs.Stepping.{after_plain}
-use Rattle.row_data.specs.declared.row.Change.TheVariants.{Remove}
+use Rattle.row_model.specs.declared.row.Change.TheVariants.{Remove}
 use Rattle.rolls.specs.Making.{list_part}
 use Rattle.office.specs.View.{state_of}
 use Rattle.office.proofs.Made.{made_fit, made_done, last_put}

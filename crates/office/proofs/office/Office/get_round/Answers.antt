@@ -43,4 +43,4 @@ returns c =
     let profile = c.ranked.ensures ∙ ap (λ (ps : List Placement). by_rank (λ k. count_by (λ p. (p.round == n) && (p.rank == k + 1)) ps)) c.entries-placements.ensures.all
     ∙ ap (λ (o : State). by_rank (λ k. placed_at_rank o n (k + 1))) c.self.view_is in
     let lists = ap (λ (ls : List Listed). length ls) (c.entries.ensures.all ∙ sym (ap (λ (x : Option Round). option_map_or (λ r. r.lists) x []) there)) in
-    record { reply = λ i. reply.Round n (c.aim_of.ensures.aim i) (is_open i) (placed i) (profile i) (lists i) }
+    record { reply = λ i. Some (reply.Round n (c.aim_of.ensures.aim i) (is_open i) (placed i) (profile i) (lists i)) }

@@ -4,7 +4,7 @@ use Rattle.rolls.specs.State.{kept_rows}
 use Rattle.rolls.specs.Refusing.{first, import_tests}
 use Rattle.rolls.specs.Importing.{rows_refusal}
 use Rattle.rolls.specs.Answers.{Imports}
-use Rattle.step_laws.specs.Changes.{import_changes}
+use Rattle.change_laws.specs.Changes.{import_changes}
 use Rattle.office.proofs.ImportRows.{kept_answered, kept_unchanged, rows_decide}
 use Rattle.office.proofs.office.Office.import.Goals as goal
 

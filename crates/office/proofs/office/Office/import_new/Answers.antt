@@ -3,7 +3,7 @@ use Rattle.std.specs.Prelude.{◌&&◌, not, nat_le, false}
 use Rattle.rolls.specs.declared.TheConstants.{MAX_IMPORTS}
 use Rattle.rolls.specs.declared.import.Import.{Import}
 use Rattle.rolls.specs.declared.request.Reply.TheVariants as reply
-use Rattle.row_data.specs.declared.row.Change.TheVariants.{Add}
+use Rattle.row_model.specs.declared.row.Change.TheVariants.{Add}
 use Rattle.rolls.specs.State.{State, has_import}
 use Rattle.rolls.specs.Importing.{with_import}
 use Rattle.office.proofs.ImportRows.{import_added, still_room, import_made, new_changes}

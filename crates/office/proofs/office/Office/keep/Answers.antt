@@ -4,7 +4,7 @@ use Rattle.rolls.specs.declared.TheConstants.{MAX_IMPORTS}
 use Rattle.rolls.specs.declared.import.Import.{Import}
 use Rattle.rolls.specs.State.{State, has_import}
 use Rattle.rolls.specs.Fit.{IsFit}
-use Rattle.step_laws.proofs.FitAfterPut.{fit_with_import}
+use Rattle.change_laws.proofs.FitAfterPut.{fit_with_import}
 use Rattle.office.specs.View.{state_of}
 use Rattle.office.proofs.office.Office.keep.Goals as goal
 

@@ -1,4 +1,4 @@
-use Rattle.std.proofs.Common.{◌≡◌, ℕ, ◌+◌, true, [], length, ap, ◌∙◌}
+use Rattle.std.proofs.Common.{◌≡◌, ℕ, ◌+◌, true, [], length, Some, ap, ◌∙◌}
 use Rattle.rolls.specs.declared.request.Reply.TheVariants as reply
 use Rattle.rolls.specs.declared.request.Plain.TheVariants.{OpenRound}
 use Rattle.rolls.specs.Roll.{put}
@@ -31,5 +31,5 @@ returns-clause-changes c = c.in_ok-changes.ensures ∙ ap (λ (n : ℕ). opening
 pub returns-clause-ok : goal.returns-clause-ok
 returns-clause-ok c =
     made_done (OpenRound c.args.aim) (state_of c.self.inside) c.args.self.now c.self.view_is c.requires.allowed c.self.invariant _ (after c) _
-    (ap (λ n. reply.Opened (n + 1)) c.last_round-number.ensures)
+    (ap (λ n. Some (reply.Opened (n + 1))) c.last_round-number.ensures)
     (returns-clause-changes c)

@@ -1,6 +1,6 @@
 use Rattle.std.proofs.Common.{◌≡◌, List, [], ◌∷◌, is_some, refl, ap, ◌∙◌}
 use Rattle.rolls.specs.declared.entries.Project.{Project}
-use Rattle.row_data.specs.declared.table.Table.TheVariants.{Project as ProjectTable}
+use Rattle.row_model.specs.declared.table.Table.TheVariants.{Project as ProjectTable}
 use Rattle.rolls.specs.declared.request.Plain.TheVariants.{PutProject}
 use Rattle.rolls.specs.Roll.{put}
 use Rattle.rolls.specs.State.{State, project_key, has_project}

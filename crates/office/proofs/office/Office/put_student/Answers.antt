@@ -1,6 +1,6 @@
 use Rattle.std.proofs.Common.{◌≡◌, List, [], ◌∷◌, is_some, refl, ap, ◌∙◌}
 use Rattle.rolls.specs.declared.entries.Student.{Student}
-use Rattle.row_data.specs.declared.table.Table.TheVariants.{Student as StudentTable}
+use Rattle.row_model.specs.declared.table.Table.TheVariants.{Student as StudentTable}
 use Rattle.rolls.specs.declared.request.Plain.TheVariants.{PutStudent}
 use Rattle.rolls.specs.Roll.{put}
 use Rattle.rolls.specs.State.{State, student_key, has_student}

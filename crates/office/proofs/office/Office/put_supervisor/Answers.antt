@@ -1,6 +1,6 @@
 use Rattle.std.proofs.Common.{◌≡◌, List, [], ◌∷◌, is_some, refl, ap, ◌∙◌}
 use Rattle.rolls.specs.declared.entries.Supervisor.{Supervisor}
-use Rattle.row_data.specs.declared.table.Table.TheVariants.{Supervisor as SupervisorTable}
+use Rattle.row_model.specs.declared.table.Table.TheVariants.{Supervisor as SupervisorTable}
 use Rattle.rolls.specs.declared.request.Plain.TheVariants.{PutSupervisor}
 use Rattle.rolls.specs.Roll.{put}
 use Rattle.rolls.specs.State.{State, supervisor_key, has_supervisor}

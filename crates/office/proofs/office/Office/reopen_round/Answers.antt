@@ -1,4 +1,4 @@
-use Rattle.std.proofs.Common.{◌≡◌, ◌==◌, true, not, List, sym, ap, subst, ◌∙◌}
+use Rattle.std.proofs.Common.{◌≡◌, ◌==◌, true, not, List, Some, sym, ap, subst, ◌∙◌}
 use Rattle.rolls.specs.declared.rounds.Round.{Round}
 use Rattle.rolls.specs.declared.rounds.Placement.{Placement}
 use Rattle.rolls.specs.declared.request.Reply.TheVariants as reply
@@ -9,7 +9,7 @@ use Rattle.rolls.specs.Fit.{IsFit}
 use Rattle.rolls.specs.Stepping.{after_plain}
 use Rattle.rolls.proofs.Places.{rises-filter}
 use Rattle.rolls.specs.Making.{reopening_changes}
-use Rattle.step_laws.specs.Changes.{kept_placements}
+use Rattle.change_laws.specs.Changes.{kept_placements}
 use Rattle.office.specs.View.{state_of}
 use Rattle.office.proofs.Made.{made_fit, made_done, last_put}
 use Rattle.office.proofs.ListPuts.{reopening_found}
@@ -44,5 +44,5 @@ returns-clause-changes c = c.in_ok-changes.ensures ∙ ap reopening_changes c.la
 pub returns-clause-ok : goal.returns-clause-ok
 returns-clause-ok c =
     made_done ReopenRound (state_of c.self.inside) c.args.self.now c.self.view_is c.requires.allowed c.self.invariant _ (after c) _
-    (ap reply.Opened c.last_round-round.ensures)
+    (ap (λ n. Some (reply.Opened n)) c.last_round-round.ensures)
     (returns-clause-changes c)

@@ -3,11 +3,11 @@ use Rattle.sqlite.proofs.StateLemmas.{survives_weaker}
 use Rattle.sqlite.specs.State.{HasCleanDisk, Survives}
 use Rattle.sqlite.specs.Held.{state}
 use Rattle.tables.specs.Causes.{IsCaused}
-use Rattle.tables.specs.Steps.{IsKept, IsLeft}
+use Rattle.tables.specs.Steps.{IsKept, MayRecoverTo}
 use Rattle.store.specs.declared.fault.StoreFault.TheVariants.{Storage}
 use Rattle.store.specs.Causes.{IsHinderedToSave}
 use Rattle.store.specs.Saving.{AreInert, IsSaving, Saves}
-use Rattle.store.proofs.ChangesInTurn.{saving_call, saves_left}
+use Rattle.store.proofs.ChangesInOrder.{saving_call, saves_left}
 use Rattle.store.proofs.store.Store.save.Goals as goal
 
 pub returns-clause-saved : goal.returns-clause-saved
@@ -19,7 +19,7 @@ returns-clause-saved g c =
 pub returns-clause-crash : goal.returns-clause-crash
 returns-clause-crash g c =
     let inert = subst AreInert c.schema.ensures.value (c.are_left.ensures.sound c.if-not-are_left.false) in
-    subst (λ k. Survives (state g.S.Store k) (state g.S.Store c.save_all.new.conn) (IsLeft (Saves c.args.changes.now) (state g.S.Store k))) c.self.view_is
+    subst (λ k. Survives (state g.S.Store k) (state g.S.Store c.save_all.new.conn) (MayRecoverTo (Saves c.args.changes.now) (state g.S.Store k))) c.self.view_is
     (survives_weaker _ _ _ _ (λ clean trees h. saves_left _ _ trees inert h) c.save_all.ensures.crash)
 
 pub returns-then-not-are_left-clause-cause : goal.returns-then-not-are_left-clause-cause

@@ -1,0 +1,15 @@
+-- Plain requests keep no import.
+use Rattle.std.proofs.Common.{◌≡◌, [], ◌∷◌, refl, ◌∙◌}
+use Rattle.rolls.specs.declared.request.Plain.{Plain}
+use Rattle.rolls.specs.declared.request.Plain.TheVariants.{PutSupervisor}
+use Rattle.rolls.specs.State.{State}
+use Rattle.rolls.specs.Stepping.{after_plain}
+use Rattle.change_laws.specs.Laws.{ImportsStay}
+
+one_keeps_none : (p : Plain) (o : State) → (let n = after_plain p o in n.imports) ≡ o.imports
+one_keeps_none (PutSupervisor code label quota) o = refl
+one_keeps_none _ o = refl
+
+pub keep_none : ImportsStay
+keep_none [] o = refl
+keep_none (p ∷ ps) o = keep_none ps (after_plain p o) ∙ one_keeps_none p o

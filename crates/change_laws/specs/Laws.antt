@@ -1,0 +1,39 @@
+-- What requests and their changes make of a fit office and of its rows, as lists in whatever order.
+use Rattle.std.specs.Prelude.{◌≡◌, ◌&&◌, List, None, [], ◌∷◌, ◌++◌}
+use Rattle.rolls.specs.declared.request.Plain.{Plain}
+use Rattle.rolls.specs.State.{State}
+use Rattle.rolls.specs.Fit.{IsFit}
+use Rattle.rolls.specs.Importing.{after_rows}
+use Rattle.rolls.specs.Refusing.{plain_refusal}
+use Rattle.rolls.specs.Stepping.{after_plain}
+use Rattle.row_model.specs.declared.row.Change.{Change}
+use Rattle.row_model.specs.declared.table.Table.{Table}
+use Rattle.row_model.specs.Rows.{AllRows, SameRows}
+use Rattle.row_model.specs.Changes.{TransformsRows}
+use Rattle.rolls.specs.Rows.{rows_in, Transforms}
+use Rattle.rolls.specs.Making.{changes_of}
+use Rattle.change_laws.specs.Apart.{AreApart}
+
+-- a fit office is fit after each plain request that it does not refuse
+abbrev pub StaysFit : Type 0
+StaysFit = (q : Plain) (o : State) → IsFit o → plain_refusal o q ≡ None → IsFit (after_plain q o)
+
+-- plain requests keep no import
+abbrev pub ImportsStay : Type 0
+ImportsStay = (rows : List Plain) (o : State) → (let n = after_rows rows o in n.imports) ≡ o.imports
+
+-- changes that transform rows into others, and then those into third ones, transform the first into the third
+abbrev pub TransformsFollow : Type 0
+TransformsFollow = (cs ds : List Change) (old mid new : AllRows) → TransformsRows cs old mid → TransformsRows ds mid new → TransformsRows (cs ++ ds) old new
+
+-- the changes of a plain request that is not refused transform the rows of a fit office into those of the office after it
+abbrev pub ChangesTransform : Type 0
+ChangesTransform = (q : Plain) (o : State) → IsFit o → plain_refusal o q ≡ None → Transforms (changes_of q o) o (after_plain q o)
+
+-- two fit offices with the same rows are one
+abbrev pub RowsGiveOffice : Type 0
+RowsGiveOffice = (o n : State) → IsFit o → IsFit n → SameRows (rows_in o) (rows_in n) → o ≡ n
+
+-- the rows that a fit office has in a table have different keys
+abbrev pub RowsApart : Type 0
+RowsApart = (o : State) → IsFit o → (table : Table) → AreApart table (rows_in o table)

@@ -1,0 +1,20 @@
+-- Tests, and what they say.
+use Rattle.std.proofs.Common.{◌≡◌, ℕ, ◌≤◌, Bool, true, false, not, Some, refl, arith}
+use Rattle.std.specs.Prelude.{nat_le}
+use Rattle.std.proofs.lemmas.Bool.Decides.{nat_tests}
+use Rattle.decoding.specs.Inside.Decoded.{where_so}
+
+pub within : (n limit : ℕ) → n ≤ limit → nat_le n limit ≡ true
+within n limit h = grind (arith, nat_tests)
+
+pub at_most : (n limit : ℕ) → nat_le n limit ≡ true → n ≤ limit
+at_most n limit h = grind (arith, nat_tests)
+
+pub not_true : (b : Bool) → not b ≡ true → b ≡ false
+not_true true h = cc
+not_true false h = refl
+
+-- what is there has the form
+pub has_form : {E : Type 0} (b : Bool) (x y : E) → where_so b x ≡ Some y → (b ≡ true) × (x ≡ y)
+has_form true x y h = (refl, cc)
+has_form false x y h = cc

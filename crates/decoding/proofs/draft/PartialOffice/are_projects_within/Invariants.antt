@@ -1,0 +1,8 @@
+use Rattle.std.proofs.Common.{◌≡◌, drop}
+use Rattle.std.specs.List.{list_all}
+use Rattle.decoding.specs.View.{drafted}
+use Rattle.decoding.proofs.EachWithin.{project_within}
+use Rattle.decoding.proofs.draft.PartialOffice.are_projects_within.Given as goal
+
+abbrev pub invariant-loop-position : goal.invariant-loop-position
+invariant-loop-position l = list_all (project_within (drafted l.self)) l.projects ≡ list_all (project_within (drafted l.self)) (drop l.position l.projects)

@@ -1,0 +1,20 @@
+use Rattle.std.proofs.Common.{◌≡◌, suc, ◌+◌, ◌-◌, ◌∙◌, arith}
+use Rattle.spa.specs.declared.TheConstants.{RANKS}
+use Rattle.decoding.specs.View.{drafted}
+use Rattle.decoding.proofs.Faults.{handed_on}
+use Rattle.decoding.proofs.Gathered.{gathered_on, gathered_off}
+use Rattle.decoding.proofs.gathering.take_all.Goals as goal
+
+pub returns-in_err-take_stage-clause-unfit : goal.returns-in_err-take_stage-clause-unfit
+returns-in_err-take_stage-clause-unfit c =
+    let stage = c.loop-stage.stage in
+    let left : suc (RANKS - stage) + stage ≡ RANKS + 1 = omega (arith, c.loop-stage-test.true) in
+    λ is. c.loop-stage.invariant (suc (RANKS - stage)) left
+    ∙ gathered_off (drafted c.loop-stage.found) (RANKS - stage) stage c.args.rows.now (c.take_stage.ensures.unfit (c.in_err-take_stage.was ∙ handed_on c.from_residual.result _ c.from_residual.ensures.1 is))
+
+pub loop-stage-preserved : goal.loop-stage-preserved
+loop-stage-preserved c =
+    λ n left. c.loop-stage.invariant (suc n) (omega (arith, left)) ∙ gathered_on (drafted c.loop-stage.found) _ n c.loop-stage.stage c.args.rows.now c.in_ok-take_stage.ensures.taken
+
+pub returns-clause-found : goal.returns-clause-found
+returns-clause-found c = c.loop-stage.invariant 0 (omega (arith, c.loop-stage-test.false, c.loop-stage.auto.stage-end))

@@ -1,0 +1,9 @@
+use Rattle.std.proofs.Common.{◌≡◌, ℕ, ◌+◌}
+use Rattle.spa.specs.declared.TheConstants.{RANKS}
+use Rattle.rolls.specs.State.{empty}
+use Rattle.decoding.specs.Inside.Gathering.{stages, staged, gathered}
+use Rattle.decoding.specs.View.{drafted}
+use Rattle.decoding.proofs.gathering.take_all.Given as goal
+
+abbrev pub invariant-loop-stage : goal.invariant-loop-stage
+invariant-loop-stage l = (n : ℕ) → n + l.stage ≡ RANKS + 1 → gathered empty (staged l.rows) ≡ gathered (drafted l.found) (stages n l.stage l.rows)

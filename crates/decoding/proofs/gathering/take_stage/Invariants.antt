@@ -1,0 +1,7 @@
+use Rattle.std.proofs.Common.{◌≡◌, drop}
+use Rattle.decoding.specs.Inside.Gathering.{at_stage, gathered}
+use Rattle.decoding.specs.View.{drafted}
+use Rattle.decoding.proofs.gathering.take_stage.Given as goal
+
+abbrev pub invariant-loop-row : goal.invariant-loop-row
+invariant-loop-row l = gathered (drafted l.fn.draft) (at_stage l.stage l.rows) ≡ gathered (drafted l.draft) (at_stage l.stage (drop l.row-index l.rows))

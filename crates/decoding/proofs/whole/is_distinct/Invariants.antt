@@ -1,0 +1,6 @@
+use Rattle.std.proofs.Common.{◌≡◌, drop}
+use Rattle.rolls.specs.Fit.{is_distinct}
+use Rattle.decoding.proofs.whole.is_distinct.Given as goal
+
+abbrev pub invariant-loop-i : goal.invariant-loop-i
+invariant-loop-i l = is_distinct l.codes ≡ is_distinct (drop l.i l.codes)

@@ -1,0 +1,7 @@
+use Rattle.std.proofs.Common.{◌≡◌, drop}
+use Rattle.rolls.specs.Fit.{only_last_open}
+use Rattle.decoding.proofs.GoesOn.{goes_on}
+use Rattle.decoding.proofs.whole.only_last_open.Given as goal
+
+abbrev pub invariant-loop-round : goal.invariant-loop-round
+invariant-loop-round l = only_last_open l.rounds ≡ goes_on l.was_open (drop l.round-index l.rounds)

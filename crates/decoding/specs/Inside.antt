@@ -1,0 +1,4 @@
+-- What proofs need and no public clause says.
+pub mod Decoded
+pub mod Gathering
+pub mod Whole

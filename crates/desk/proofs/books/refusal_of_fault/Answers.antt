@@ -1,5 +1,0 @@
-use Rattle.std.proofs.Common.{refl}
-use Rattle.desk.proofs.books.refusal_of_fault.Goals as goal
-
-pub returns-in-Memory-clause-memory : goal.returns-in-Memory-clause-memory
-returns-in-Memory-clause-memory c = λ _. refl

@@ -1,0 +1,67 @@
+use Rattle.std.proofs.Common.{◌≡◌, inl, inr, Result, Err, None, refl, ap, subst, ◌∙◌, rules}
+use Rattle.rolls.specs.State.{State}
+use Rattle.rolls.specs.Rows.{Transforms}
+use Rattle.rolls.specs.Run.{Makes, refusal}
+use Rattle.outside.specs.Layers.{layers}
+use Rattle.outside.specs.Changes.{MayChange}
+use Rattle.sqlite.specs.Held.{state}
+use Rattle.sqlite.specs.State.{State as Seen}
+use Rattle.tables.specs.Causes.{IsCaused}
+use Rattle.store.specs.Causes.{IsHinderedToSave}
+use Rattle.rolls.specs.declared.request.Request.{Request}
+use Rattle.rolls.specs.declared.request.Done.{Done}
+use Rattle.rolls.specs.declared.refusal.Refusal.TheVariants.{Storage}
+use Rattle.desk.specs.Keeping.{CarriesOut}
+use Rattle.desk.specs.Causes.{IsHinderedToAsk}
+use Rattle.desk.proofs.Asked.{idle_saved}
+use Rattle.desk.proofs.SavedRows.{call_carried}
+use Rattle.desk.proofs.persistent.PersistentOffice.change.Goals as goal
+
+-- changes of a request that can't be saved hinder it
+hindered_by : {A E : Type 0} (storage : E) (result : Result A E) (office next : State) (q : Request) (done : Done) (old new : Seen) → CarriesOut office q next → MayChange office q done.changes.items → Transforms done.changes.items office next
+    → IsCaused storage (IsHinderedToSave done.changes.items) result old new → IsCaused storage (IsHinderedToAsk office q) result old new
+hindered_by storage result office next q done old new carried may transforms caused clean told =
+    let stopped = caused clean told in
+    record {
+      why = elim stopped.why [
+        | inl shut ↦ inl shut
+        | inr more ↦ inr (elim more [
+          | inl faults ↦ inl faults
+          | inr hindered ↦ inr (record { next = next; carried = carried; changes = done.changes.items; may = may; transforms = transforms; hindered = hindered })
+        ])
+      ];
+    }
+
+pub exchange-requires : goal.exchange-requires
+exchange-requires g c =
+    let same = c.in_ok-next.ensures.same ∙ ap (λ k. k.office) c.self.view_is in
+    record { transforms = subst (λ (o : State). Transforms c.in-Ok.done.changes.items o c.make_change.new.office) same c.in-Ok.ensures.transforms }
+
+pub returns-clause-saved : goal.returns-clause-saved
+returns-clause-saved g c =
+    let q = c.args.request in
+    let old : State = c.args.self.now.office in
+    let next : State = c.make_change.new.office in
+    let done = c.in-Ok.done in
+    let saved = c.exchange.ensures.saved in
+    let same = c.in_ok-next.ensures.same ∙ ap (λ k. k.office) c.self.view_is in
+    let made = subst (λ (o : State). Makes layers o q done.reply next) same c.in-Ok.ensures.made.1 in
+    let none = subst (λ (o : State). refusal layers o q ≡ None) same c.in-Ok.ensures.made.0 in
+    let transforms = subst (λ (o : State). Transforms done.changes.items o next) same c.in-Ok.ensures.transforms in
+    let may = subst (λ (o : State). MayChange o q done.changes.items) same c.in-Ok.ensures.changes in
+    record {
+      crash = call_carried q old next done (state g.S.Store c.args.self.now.store) (state g.S.Store c.exchange.new.self.store) none made c.fit.ensures.fit transforms c.keeps.ensures.tables saved.crash;
+      alone = λ _. saved.alone;
+      stays_open = λ _. saved.stays_open;
+      stays_shut = saved.stays_shut;
+      acted_on = λ _. saved.acted_on;
+      cause = λ quiet. hindered_by Storage c.exchange.result old next q done (state g.S.Store c.args.self.now.store) (state g.S.Store c.exchange.new.self.store) (done.reply, (none, made)) may transforms (saved.cause quiet);
+    }
+
+pub returns-in-Err-clause-saved : goal.returns-in-Err-clause-saved
+returns-in-Err-clause-saved g c =
+    idle_saved c.args.self.now.office c.args.request (Err c.in-Err.refusal) (state g.S.Store c.args.self.now.store) _ refl (λ _. refl)
+    (λ told. let is : c.in-Err.refusal ≡ Storage = cc in c.make_change.ensures.unstored (c.in-Err.is ∙ ap Err is))
+
+pub returns-in_err-next-clause-saved : goal.returns-in_err-next-clause-saved
+returns-in_err-next-clause-saved g c = idle_saved c.args.self.now.office c.args.request _ (state g.S.Store c.args.self.now.store) _ refl (λ _. search rules) (search rules)

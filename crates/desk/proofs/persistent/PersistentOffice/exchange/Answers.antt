@@ -1,0 +1,101 @@
+use Rattle.std.proofs.Common.{◌≡◌, List, Err, Result, IsTrue, refl, sym, ap, subst}
+use Rattle.sqlite.specs.State.{State as Seen, Survives}
+use Rattle.sqlite.specs.Held.{state}
+use Rattle.tables.specs.Steps.{MayRecoverTo}
+use Rattle.row_model.specs.declared.row.Change.{Change}
+use Rattle.rolls.specs.State.{State}
+use Rattle.rolls.specs.Rows.{Transforms}
+use Rattle.rolls.specs.declared.refusal.Refusal.{Refusal}
+use Rattle.rolls.specs.declared.refusal.Refusal.TheVariants.{Storage as TheStorage}
+use Rattle.rolls.specs.declared.request.Reply.{Reply}
+use Rattle.store.specs.declared.fault.StoreFault.{StoreFault}
+use Rattle.store.specs.declared.fault.StoreFault.TheVariants.{Storage}
+use Rattle.store.specs.Saving.{AreActedOn, Saves}
+use Rattle.desk.proofs.SavedRows.{saved_keeps, kept_keeps}
+use Rattle.sqlite.specs.State.{HasCleanDisk}
+use Rattle.rolls.specs.declared.refusal.Refusal.TheVariants.{Damaged as TheDamaged, Memory as TheMemory}
+use Rattle.store.specs.declared.fault.StoreFault.TheVariants.{Damaged, Memory}
+use Rattle.store.specs.Causes.{IsHinderedToSave}
+use Rattle.tables.specs.Causes.{IsStopped}
+use Rattle.desk.proofs.SavedRows.{was_storage}
+use Rattle.desk.proofs.persistent.PersistentOffice.exchange.Goals as goal
+
+-- changes that transform an office into the next one transform it into what the next one is exchanged for
+turned : (changes : List Change) (office next here : State) → here ≡ next → Transforms changes office next → Transforms changes office here
+turned changes office next here e transforms = subst (λ (o : State). Transforms changes office o) (sym e) transforms
+
+pub invariant_of-self : goal.invariant_of-self
+invariant_of-self g c = record {
+  stands = saved_keeps c.args.done.changes.items c.deref.result.now c.deref.ensures.value c.args.self.now.office c.self.inside.office c.swap.new.x (ap (λ k. k.office) c.self.view_is)
+      (state g.S.Store c.self.inside.store) (state g.S.Store c.save.new.self) _ (turned c.args.done.changes.items c.args.self.now.office c.args.next.now c.swap.new.x c.swap.ensures.x_after c.requires.transforms) c.save.ensures.crash (λ clean. (c.in-Ok.ensures.saved clean).saved) c.self.invariant.stands;
+  ended = c.save.ensures.ended c.self.invariant.ended;
+}
+
+pub returns-in-Ok-clause-tables : goal.returns-in-Ok-clause-tables
+returns-in-Ok-clause-tables g c =
+    saved_keeps c.args.done.changes.items c.deref.result.now c.deref.ensures.value c.args.self.now.office c.self.inside.office c.swap.new.x (ap (λ k. k.office) c.self.view_is)
+    (state g.S.Store c.self.inside.store) (state g.S.Store c.save.new.self) _ (turned c.args.done.changes.items c.args.self.now.office c.args.next.now c.swap.new.x c.swap.ensures.x_after c.requires.transforms) c.save.ensures.crash (λ clean. (c.in-Ok.ensures.saved clean).saved) c.self.invariant.stands
+
+pub returns-in-Ok-clause-err : goal.returns-in-Ok-clause-err
+returns-in-Ok-clause-err g c = tt
+
+pub returns-in-Ok-clause-ok : goal.returns-in-Ok-clause-ok
+returns-in-Ok-clause-ok g c = (refl, c.swap.ensures.x_after)
+
+-- what a crash leaves, of the changes that were given
+left_of : (given changes : List Change) (before seen : Seen) (new : Seen) → given ≡ changes → before ≡ seen
+    → Survives before new (MayRecoverTo (Saves given) before) → Survives seen new (MayRecoverTo (Saves changes) seen)
+left_of given changes before seen new e f h = rw (← e, ← f) h
+
+pub returns-in-Err-clause-tables : goal.returns-in-Err-clause-tables
+returns-in-Err-clause-tables g c =
+    kept_keeps c.self.inside.office (state g.S.Store c.self.inside.store) (state g.S.Store c.save.new.self) _ c.save.ensures.crash c.in-Err.ensures.err c.self.invariant.stands
+
+-- a connection that was open was open, of equal ones
+shut_so : (before seen : Seen) → before ≡ seen → IsTrue before.is_open → IsTrue seen.is_open
+shut_so before seen e up = subst (λ (z : Seen). IsTrue z.is_open) e up
+
+-- where a foreign key would write other rows too, what is returned is a storage error
+acted_so : (before seen : Seen) (fault : StoreFault) (refusal : Refusal) → before ≡ seen
+    → (AreActedOn before.now.schema → ◌≡◌ {A = Result (Unit {0}) StoreFault} (Err fault) (Err Storage)) → (fault ≡ Storage → refusal ≡ TheStorage)
+    → AreActedOn seen.now.schema → ◌≡◌ {A = Result Reply Refusal} (Err refusal) (Err TheStorage)
+acted_so before seen fault refusal e failed told acted = let is = failed (subst (λ (z : Seen). AreActedOn z.now.schema) (sym e) acted) in ap Err (told cc)
+
+pub returns-in-Err-clause-acted_on : goal.returns-in-Err-clause-acted_on
+returns-in-Err-clause-acted_on g c =
+    acted_so (state g.S.Store c.self.inside.store) (state g.S.Store c.args.self.now.store) c.in-Err.fault c.refusal_of_fault.result
+    (ap (λ k. state g.S.Store k.store) c.self.view_is) c.in-Err.ensures.acted_on c.refusal_of_fault.ensures.storage
+
+-- and why else it is returned
+caused_so : (given changes : List Change) (before seen new : Seen) (fault : StoreFault) (refusal : Refusal) → given ≡ changes → before ≡ seen → (fault ≡ Memory → refusal ≡ TheMemory) → (fault ≡ Damaged → refusal ≡ TheDamaged)
+    → ((AreActedOn before.now.schema → ⊥) → HasCleanDisk new → ◌≡◌ {A = Result (Unit {0}) StoreFault} (Err fault) (Err Storage) → IsStopped (IsHinderedToSave given) before new)
+    → (AreActedOn seen.now.schema → ⊥) → HasCleanDisk new → ◌≡◌ {A = Result Reply Refusal} (Err refusal) (Err TheStorage) → IsStopped (IsHinderedToSave changes) seen new
+caused_so given changes before seen new fault refusal e f memory damaged caused quiet clean told =
+    let is : refusal ≡ TheStorage = cc in
+    subst (λ (z : Seen). IsStopped (IsHinderedToSave changes) z new) f
+    (subst (λ (cs : List Change). IsStopped (IsHinderedToSave cs) before new) e (caused (λ acted. quiet (subst (λ (z : Seen). AreActedOn z.now.schema) f acted)) clean (ap Err (was_storage fault refusal memory damaged is))))
+
+pub returns-in-Ok-clause-saved : goal.returns-in-Ok-clause-saved
+returns-in-Ok-clause-saved g c =
+    let before : state g.S.Store c.self.inside.store ≡ state g.S.Store c.args.self.now.store = ap (λ k. state g.S.Store k.store) c.self.view_is in
+    record {
+      crash = left_of c.deref.result.now c.args.done.changes.items (state g.S.Store c.self.inside.store) (state g.S.Store c.args.self.now.store) (state g.S.Store c.save.new.self) c.deref.ensures.value before c.save.ensures.crash;
+      alone = λ clean. (c.in-Ok.ensures.saved clean).alone;
+      stays_open = λ clean. (c.in-Ok.ensures.saved clean).saved.shown.is_open;
+      stays_shut = λ clean up. shut_so _ _ before ((c.in-Ok.ensures.saved clean).saved.shown.was_open);
+      acted_on = λ acted. absurd (let failed = c.in-Ok.ensures.acted_on (subst (λ (z : Seen). AreActedOn z.now.schema) (sym before) acted) in cc);
+      cause = λ quiet clean told. absurd (cc);
+    }
+
+pub returns-in-Err-clause-saved : goal.returns-in-Err-clause-saved
+returns-in-Err-clause-saved g c =
+    let before : state g.S.Store c.self.inside.store ≡ state g.S.Store c.args.self.now.store = ap (λ k. state g.S.Store k.store) c.self.view_is in
+    record {
+      crash = left_of c.deref.result.now c.args.done.changes.items (state g.S.Store c.self.inside.store) (state g.S.Store c.args.self.now.store) (state g.S.Store c.save.new.self) c.deref.ensures.value before c.save.ensures.crash;
+      alone = λ _. tt;
+      stays_open = λ _. tt;
+      stays_shut = λ clean up. shut_so _ _ before (c.in-Err.ensures.err clean up).0;
+      acted_on = λ _. refl;
+      cause = caused_so c.deref.result.now c.args.done.changes.items (state g.S.Store c.self.inside.store) (state g.S.Store c.args.self.now.store) (state g.S.Store c.save.new.self) c.in-Err.fault c.refusal_of_fault.result c.deref.ensures.value
+          before c.refusal_of_fault.ensures.memory c.refusal_of_fault.ensures.damaged (c.in-Err.ensures.cause c.self.invariant.ended);
+    }

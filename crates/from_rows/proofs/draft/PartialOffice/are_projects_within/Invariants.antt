@@ -1,8 +1,0 @@
-use Rattle.std.proofs.Common.{◌≡◌, drop}
-use Rattle.std.specs.List.{list_all}
-use Rattle.from_rows.specs.View.{drafted}
-use Rattle.from_rows.proofs.EachWithin.{project_within}
-use Rattle.from_rows.proofs.draft.PartialOffice.are_projects_within.Given as goal
-
-abbrev pub invariant-loop-position : goal.invariant-loop-position
-invariant-loop-position l = list_all (project_within (drafted l.self)) l.projects ≡ list_all (project_within (drafted l.self)) (drop l.position l.projects)

@@ -1,8 +1,0 @@
-use Rattle.std.proofs.Common.{◌≡◌, drop}
-use Rattle.std.specs.List.{list_all}
-use Rattle.from_rows.specs.View.{drafted}
-use Rattle.from_rows.proofs.EachWithin.{supervisor_within}
-use Rattle.from_rows.proofs.draft.PartialOffice.are_supervisors_within.Given as goal
-
-abbrev pub invariant-loop-position : goal.invariant-loop-position
-invariant-loop-position l = list_all (supervisor_within (drafted l.self)) l.supervisors ≡ list_all (supervisor_within (drafted l.self)) (drop l.position l.supervisors)

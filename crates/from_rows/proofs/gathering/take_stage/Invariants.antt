@@ -1,7 +1,0 @@
-use Rattle.std.proofs.Common.{◌≡◌, drop}
-use Rattle.from_rows.specs.Inside.Gathering.{at_stage, gathered}
-use Rattle.from_rows.specs.View.{drafted}
-use Rattle.from_rows.proofs.gathering.take_stage.Given as goal
-
-abbrev pub invariant-loop-row : goal.invariant-loop-row
-invariant-loop-row l = gathered (drafted l.fn.draft) (at_stage l.stage l.rows) ≡ gathered (drafted l.draft) (at_stage l.stage (drop l.row-index l.rows))

@@ -1,6 +1,0 @@
-use Rattle.std.proofs.Common.{◌≡◌, drop}
-use Rattle.rolls.specs.Fit.{are_aimed}
-use Rattle.from_rows.proofs.whole.are_aimed.Given as goal
-
-abbrev pub invariant-loop-i : goal.invariant-loop-i
-invariant-loop-i l = are_aimed l.aims l.rounds ≡ are_aimed (drop l.i l.aims) (drop l.i l.rounds)

@@ -1,6 +1,0 @@
-use Rattle.std.proofs.Common.{◌≡◌, suc, drop}
-use Rattle.rolls.specs.Fit.{are_numbered}
-use Rattle.from_rows.proofs.whole.are_numbered.Given as goal
-
-abbrev pub invariant-loop-i : goal.invariant-loop-i
-invariant-loop-i l = are_numbered 1 l.rounds ≡ are_numbered (suc l.i) (drop l.i l.rounds)

@@ -1,0 +1,91 @@
+-- Changes one after another.
+use Rattle.std.proofs.Common.{◌≡◌, ℕ, ◌+◌, ◌<◌, List, [], ◌∷◌, ◌++◌, length, get_or, take, refl, sym, ap, subst, ◌∙◌, Result, Ok, Err, OnOk, IsTrue}
+use Rattle.std.proofs.lemmas.List.{take_more}
+use Rattle.sqlite.specs.Effect.{Database}
+use Rattle.sqlite.specs.State.{State}
+use Rattle.row_model.specs.declared.row.Change.{Change}
+use Rattle.row_model.specs.declared.row.Change.TheVariants.{Add, Put, Remove}
+use Rattle.row_model.specs.Changes.{after_changes, table_of}
+use Rattle.change_laws.proofs.Changes.{after_both}
+use Rattle.sqlite.specs.Tree.{Trees}
+use Rattle.tables.specs.Steps.{HasStepped, HasSaved, MayRecoverTo}
+use Rattle.tables.specs.Inside.Steps.{Stays}
+use Rattle.tables.proofs.Runs.{stays_none, stays_then}
+use Rattle.store.specs.Tables.{TablesHold}
+use Rattle.sqlite.specs.Schema.{Schema}
+use Rattle.sqlite_rules.specs.Lists.{Has}
+use Rattle.tables.specs.Table.{Lists, table_at}
+use Rattle.store.specs.Saving.{AllNeed, AreInert, Applies, IsSaving, LeavesOthers, Needs, Saves, Spares}
+use Rattle.store.specs.Inside.Saving.{AppliesOne}
+
+-- no change applies nothing
+pub applies_none : (db : Database) → Applies [] db db
+unfolding Applies
+applies_none db need rows t = (t, record { schema = refl; others = λ any h apart. refl })
+
+-- what spares the other tables twice spares them
+spares_then : (x y z : Database) → Spares x y → Spares y z → Spares x z
+spares_then x y z p q = record {
+  schema = q.schema ∙ p.schema;
+  others = λ any h apart.
+      q.others any (subst (λ (s : Schema). Has s.tables any) (sym p.schema) h) (λ table among place listed. apart table among place (subst (λ (s : Schema). Lists s (table_at table place)) p.schema listed))
+      ∙ p.others any h apart;
+}
+
+-- what changes ask of the schema, one of them after the others
+need_more : (cs : List Change) (c : Change) (s : Schema) → AllNeed (cs ++ c ∷ []) s → AllNeed cs s × Needs c s
+need_more [] c s all = (tt, all.0)
+need_more (d ∷ cs) c s all = let rest = need_more cs c s all.1 in ((all.0, rest.0), rest.1)
+
+-- where no foreign key acts on the tables they have it
+all_needed : (cs : List Change) (s : Schema) → AreInert s → AllNeed cs s
+all_needed [] s inert = tt
+all_needed (c ∷ cs) s inert = (one c, all_needed cs s inert)
+  where
+    one : (c : Change) → Needs c s
+    one (Add row) = tt
+    one (Put row) = inert row.table
+    one (Remove part) = inert (table_of part)
+
+applies_then : (cs : List Change) (c : Change) (x y z : Database) → Applies cs x y → AppliesOne c y z → Applies (cs ++ c ∷ []) x z
+unfolding Applies AppliesOne
+applies_then cs c x y z p q need rows t =
+    let needs = need_more cs c x.schema need in
+    let first = p needs.0 rows t in
+    let then = q (subst (Needs c) (sym first.1.schema) needs.1) (after_changes cs rows) first.0 in
+    (subst (TablesHold z) (sym (after_both cs (c ∷ []) rows)) then.0, spares_then x y z first.1 then.1)
+
+-- nothing was changed yet
+pub changes_none : (s : State) → Stays (Applies []) s s
+changes_none s = stays_none (Applies []) s (applies_none s.now)
+
+-- one change more
+pub changes_more : (i : ℕ) (changes : List Change) (change : Change) (a b c : State) → i < length changes → change ≡ get_or changes i change → Stays (Applies (take i changes)) a b
+    → HasStepped (AppliesOne change) b c → Stays (Applies (take (i + 1) changes)) a c
+changes_more i changes change a b c low is p q =
+    let all : take i changes ++ change ∷ [] ≡ take (i + 1) changes = ap (λ x. take i changes ++ x ∷ []) is ∙ sym (take_more changes i change low) in
+    subst (λ cs. Stays (Applies cs) a c) all (stays_then (Applies (take i changes)) (AppliesOne change) (Applies (take i changes ++ change ∷ [])) a b c (applies_then (take i changes) change a.now b.now c.now) p q)
+
+-- changes that were applied are saved, where nothing acts on the tables
+pub saves : (changes : List Change) (old new : Database) → AreInert old.schema → Applies changes old new → Saves changes old new
+unfolding Applies Saves
+saves changes old new inert p rows t = (p (all_needed changes old.schema inert) rows t).0
+
+-- the same of what a crash leaves
+pub saves_left : (changes : List Change) (old : State) (trees : Trees) → AreInert old.now.schema → MayRecoverTo (Applies changes) old trees → MayRecoverTo (Saves changes) old trees
+saves_left changes old trees inert h = record { was_open = h.was_open; db = h.db; sound = h.sound; step = saves changes old.now h.db inert h.step; same = h.same }
+
+-- changes that were applied left the other tables alone
+pub leaves_others : (changes : List Change) (old new : Database) → AreInert old.schema → Applies changes old new → LeavesOthers old new
+unfolding Applies LeavesOthers
+leaves_others changes old new inert p rows t = (p (all_needed changes old.schema inert) rows t).1
+
+-- so a transaction of them has saved them, where a crash leaves what was committed
+pub saving_call : {E : Type 0} (changes : List Change) (a b : State) (r : Result (Unit {0}) E) → AreInert a.now.schema → ((trees : Trees) → IsTrue b.is_open → b.may_leave trees → trees ≡ b.committed.trees)
+    → OnOk r (HasSaved (Applies changes) a b) → OnOk r (IsSaving changes a b)
+saving_call changes a b (Ok u) inert settled h = record {
+  saved = record { shown = h.shown; step = saves changes a.now b.now inert h.step };
+  others = leaves_others changes a.now b.now inert h.step;
+  alone = λ trees left. settled trees h.shown.is_open left ∙ ap (λ (db : Database). db.trees) h.shown.committed_is;
+}
+saving_call changes a b (Err e) inert settled h = h

@@ -1,0 +1,31 @@
+use Rattle.std.proofs.Common.{◌∙◌, arith, refl, rules}
+use Rattle.sqlite.specs.State.{HasCleanDisk}
+use Rattle.sqlite.specs.Held.{state}
+use Rattle.tables.proofs.Starved.{lacks, lacks_after}
+use Rattle.tables.proofs.Runs.{part_then}
+use Rattle.store.proofs.NewTables.{created}
+use Rattle.store.proofs.creating.make_tables.Goals as goal
+
+pub returns-clause-step : goal.returns-clause-step
+returns-clause-step g c = part_then _ _ _ _ _ _ _ _ (λ _ p q. created _ refl _ _ _ p q) c.in_ok-make_each.ensures.step (rw (c.params-to_sql.ensures, c.params-to_sql-2.ensures, c.number_of.ensures) at c.enter.ensures.step)
+
+pub returns-clause-starved : goal.returns-clause-starved
+returns-clause-starved g c clean inside h =
+    let early : HasCleanDisk (state g.S.Store c.make_each.new.tx.conn.now) = omega (arith, c.enter.ensures.step.survives.clean) in
+    let made = c.in_ok-make_each.ensures.step.did early in
+    lacks_after _ _ _ made.committed (lacks _ _ _ _ (rw h at (c.enter.ensures.told clean (made.mode ∙ inside))))
+
+pub returns-in_err-make_each-clause-step : goal.returns-in_err-make_each-clause-step
+returns-in_err-make_each-clause-step g c = search rules
+
+pub returns-in_err-make_each-clause-starved : goal.returns-in_err-make_each-clause-starved
+returns-in_err-make_each-clause-starved g c = search rules
+
+pub returns-in_err-make_each-clause-cause : goal.returns-in_err-make_each-clause-cause
+returns-in_err-make_each-clause-cause g c = search rules
+
+pub returns-clause-same_reference : goal.returns-clause-same_reference
+returns-clause-same_reference g c = search rules
+
+pub returns-clause-cause : goal.returns-clause-cause
+returns-clause-cause g c = search rules

@@ -1,9 +1,0 @@
-use Rattle.std.proofs.Common.{◌≡◌, false, take}
-use Rattle.sqlite_rules.specs.Lists.{Has}
-use Rattle.tables.specs.Layout.{is_there}
-use Rattle.row_data.specs.declared.table.Table.{Table}
-use Rattle.tables.specs.Table.{shape_of}
-use Rattle.store.proofs.founding.has_none_of.Given as goal
-
-abbrev pub invariant-loop-table : goal.invariant-loop-table
-invariant-loop-table l = (table : Table) → Has (take l.table-index l.tables) table → is_there l.schema (shape_of table).name ≡ false

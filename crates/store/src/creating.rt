@@ -1,0 +1,87 @@
+//! Making the tables.
+
+ghost use Rattle.std.specs.Prelude.{◌≡◌, ◌≢◌, IsTrue, false, OnOk, OnErr};
+ghost use Rattle.sqlite.specs.State.{HasCleanDisk, Survives};
+ghost use Rattle.sqlite.specs.Held.{state};
+ghost use Rattle.tables.specs.Steps.{Does, HasSaved, HasStepped, IsKept, MayRecoverTo};
+ghost use Rattle.tables.specs.Inside.Steps.{Stays};
+ghost use Rattle.tables.specs.Causes.{IsCaused, IsCausedInside, IsRunInside, IsStarvedInside};
+ghost use Rattle.store.specs.Causes.{IsHinderedCreating, IsHinderedMaking, RanTables};
+ghost use Rattle.store.specs.Inside.Tables.{Empties};
+ghost use Rattle.store.specs.Tables.{HasNone, HasNoneOf, MakesTables};
+
+use crate::all_tables::TABLES;
+use crate::edition::{LATEST, number_of};
+use crate::fault::StoreFault;
+use sqlite::{Alter, Connection, Transaction, params};
+use sqlite_schema::schema::Schema;
+use tables::Table;
+use tables::fault::TableFault;
+use tables::layout::has_table;
+use tables::statements::Entering::New;
+use tables::statements::{enter, make};
+
+/// Whether none of these tables is there.
+pub fn has_none_of(schema: &Schema, tables: &[Table]) -> bool
+    ensures right { IsTrue result → HasNoneOf tables.now schema.now }
+    ensures wrong { result ≡ false → HasNoneOf tables.now schema.now → ⊥ }
+{
+    for table in tables {
+        if has_table(schema, *table) {
+            return false;
+        }
+    }
+    true
+}
+
+/// Whether none of the tables is there.
+pub fn has_none(schema: &Schema) -> bool
+    ensures right { IsTrue result → HasNone schema.now }
+    ensures wrong { result ≡ false → HasNone schema.now → ⊥ }
+{
+    has_none_of(schema, &TABLES)
+}
+
+/// Makes each of these tables.
+pub fn make_each<S: Alter>(tx: &mut Transaction<'_, S>, tables: &[Table]) -> Result<(), TableFault>
+    ensures same_reference { tx.new.conn.ghost_name ≡ tx.old.conn.ghost_name }
+    ensures step { Does (Stays (MakesTables tables.now)) result (state S.Store tx.old.conn.now) (state S.Store tx.new.conn.now) }
+    ensures ran { IsRunInside (RanTables tables.now) result (state S.Store tx.old.conn.now) (state S.Store tx.new.conn.now) }
+    ensures starved { IsStarvedInside result (state S.Store tx.old.conn.now) (state S.Store tx.new.conn.now) }
+    ensures cause { IsCausedInside (IsHinderedMaking tables.now) result (state S.Store tx.old.conn.now) (state S.Store tx.new.conn.now) }
+{
+    for table in tables {
+        make(tx, *table)?;
+    }
+    Ok(())
+}
+
+/// Makes each table, and says which edition this is.
+fn make_tables<S: Alter>(tx: &mut Transaction<'_, S>) -> Result<(), TableFault>
+    ensures same_reference { tx.new.conn.ghost_name ≡ tx.old.conn.ghost_name }
+    ensures step { Does (HasStepped Empties) result (state S.Store tx.old.conn.now) (state S.Store tx.new.conn.now) }
+    ensures starved { IsStarvedInside result (state S.Store tx.old.conn.now) (state S.Store tx.new.conn.now) }
+    ensures cause { IsCausedInside IsHinderedCreating result (state S.Store tx.old.conn.now) (state S.Store tx.new.conn.now) }
+{
+    make_each(tx, &TABLES)?;
+    // In the transaction that makes the tables: so no crash leaves tables without their number.
+    enter(tx, New, Table::Edition, params![1, number_of(LATEST)])
+}
+
+/// Makes the tables in one transaction.
+pub fn create_tables<S: Alter>(conn: &mut Connection<S>) -> Result<(), StoreFault>
+    ensures ok { HasCleanDisk (state S.Store conn.new) → OnOk result (HasSaved Empties (state S.Store conn.old) (state S.Store conn.new)) }
+    ensures err { HasCleanDisk (state S.Store conn.new) → OnErr result (IsKept (state S.Store conn.old) (state S.Store conn.new)) }
+    ensures faults { result ≢ Err StoreFault.Damaged }
+    ensures cause { conn.old.in_transaction ≡ false → IsCaused StoreFault.Storage IsHinderedCreating result (state S.Store conn.old) (state S.Store conn.new) }
+    ensures crash { Survives (state S.Store conn.old) (state S.Store conn.new) (MayRecoverTo Empties (state S.Store conn.old)) }
+    ensures ended { conn.old.in_transaction ≡ false → conn.new.in_transaction ≡ false }
+{
+    if !conn.is_autocommit() {
+        return Err(StoreFault::Storage);
+    }
+    let mut tx = conn.transaction();
+    // Where one fails `tx` is dropped, which undoes those before it.
+    make_tables(&mut tx)?;
+    Ok(tx.commit()?)
+}

@@ -1,0 +1,49 @@
+-- What is outside of the program, as contracts see it. A relation here holds of what was found: no code makes it hold but by looking.
+use Rattle.std.specs.Prelude.{◌≡◌, ◌⊎◌, ◌+◌, ℕ, List, take, ⊤, Option, Some, IfSome, Result}
+use Rattle.std.specs.declared.io.ErrorKind.{ErrorKind}
+use Rattle.sqlite_disk.specs.declared.Disk.{Ghosts}
+use Rattle.sqlite_disk.specs.declared.Files.{Files}
+use Rattle.sqlite.specs.declared.error.Error.{Error}
+use Rattle.sqlite.specs.declared.error.Error.TheVariants.{SqliteFailure}
+use Rattle.sqlite.specs.declared.error.ErrorCode.TheVariants.{CannotOpen, OutOfMemory, DatabaseBusy}
+use Rattle.sqlite.specs.declared.file.Leftover.{Leftover}
+use Rattle.sqlite.specs.Files.{IsCleanLeft, FailsToOpenFiles, LeavesFiles}
+use Rattle.sqlite_wal.specs.Recovery.{Image}
+
+-- what there is to read, where that is known, or none where it could not be opened
+abbrev pub Found : Type 0
+Found = Option (Option (List ℕ))
+
+-- a port: its connections in order, and whether it cannot be bound
+pub record PortState : Type 1 where
+  pub comes : ℕ → Found → Type 0
+  pub is_taken : Type 0
+
+-- a port of which nothing is known
+abbrev pub some_port : PortState
+some_port = record { comes = λ _ _. ⊤; is_taken = ⊤ }
+
+-- what is known of one is known of the other
+pub record Within (one other : PortState) : Type 0 where
+  pub comes : (n : ℕ) (found : Found) → one.comes n found → other.comes n found
+  pub is_taken : one.is_taken → other.is_taken
+
+-- the words of the command line, or why they cannot be read; what standard input holds; by name the files, the first contents of database
+-- files, and why one is not opened; and the ports
+pub record WorldState : Type 1 where
+  pub said : Result (List (List ℕ)) ErrorKind → Type 0
+  pub input : Option (List ℕ) → Type 0
+  pub holds : List ℕ → Found → Type 0
+  pub image : List ℕ → Image
+  pub refuses : List ℕ → Error → Type 0
+  pub ports : ℕ → PortState
+
+-- these bytes are those of a file, up to the first one above this many
+abbrev pub IsReadOf : (Found → Type 0) → ℕ → List ℕ → Type 0
+IsReadOf holds most bytes = (left : Option (List ℕ)) × holds (Some left) × IfSome left (λ all. bytes ≡ take (most + 1) all)
+
+-- a database file is not opened by this fault: it cannot be found, or what was found there is why
+abbrev pub FailsToOpen : {D : Type 0} (g : Ghosts D) → (Files D → Type 0) → Error → Type 0
+FailsToOpen {D} g AreFound error =
+    ((error ≡ SqliteFailure CannotOpen) ⊎ ((error ≡ SqliteFailure OutOfMemory) ⊎ (error ≡ SqliteFailure DatabaseBusy)))
+    ⊎ ((files : Files D) × AreFound files × (left : Leftover D g) × (IsCleanLeft left → FailsToOpenFiles files left error × LeavesFiles files left))

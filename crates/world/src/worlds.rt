@@ -1,0 +1,85 @@
+//! What the program can do outside. What it has not been lent it cannot do: who holds ports opens no file, and a database is opened once.
+
+ghost use Rattle.std.specs.Prelude.{◌≡◌, ℕ, ◌+◌, false, map, string_bytes, Some, None, Ok, Err, IfOk, IfErr, MatchResult};
+ghost use Rattle.std.specs.IoError.{error_kind};
+ghost use Rattle.sqlite.specs.Files.{IsBlankAs, IsOpened, file_state};
+ghost use Rattle.sqlite.specs.Start.{FindsIn};
+ghost use Rattle.sqlite.specs.State.{HasCleanDisk};
+ghost use Rattle.sqlite_store.specs.FileStore.{view};
+ghost use Rattle.world.specs.WorldState.{Found, PortState, Within, WorldState};
+
+use sqlite::{Connection, Error, FileStore};
+use sqlite_disk::Disk;
+use std::io;
+use std::io::{Read, Write};
+
+/// A port that is bound.
+pub trait Door: Drop {
+    /// What is read of a connection.
+    type Reader: Read + Drop;
+
+    /// What is written to it.
+    type Writer: Write + Drop;
+
+    // The connections that are still to come, in order.
+    ghost comes: { Self → ℕ → Found → Type 0 };
+
+    /// Accepts the next connection, and returns its two ends.
+    fn accept(&mut self) -> io::Result<(Self::Reader, Self::Writer)>
+        ensures came { MatchResult result (λ ends. comes self.old 0 (Some (Self.Reader.remaining ends.0))) (λ _. comes self.old 0 None) }
+        ensures next { (n : ℕ) (found : Found) → comes self.new n found → comes self.old (n + 1) found };
+}
+
+/// The ports, one of which can be bound.
+pub trait Ports: Drop {
+    /// A port that is bound.
+    type Door: Door;
+
+    // What is known of each.
+    ghost state: { Self → ℕ → PortState };
+
+    /// Binds this port, which nobody else's machine reaches.
+    fn bind(self, port: u16) -> io::Result<Self::Door>
+        ensures bound { IfOk result (λ door. (n : ℕ) (found : Found) → Self.Door.comes door n found → (state self port).comes n found) }
+        ensures taken { IfErr result (λ _. (state self port).is_taken) };
+}
+
+/// What a program is given, and files, one of which can be opened as a database; then the ports are left.
+pub trait World: Drop {
+    /// Standard input.
+    type Input: Read + Drop;
+
+    /// What is read of a file.
+    type Reader: Read + Drop;
+
+    /// A file of a database.
+    type File: Disk + Drop;
+
+    /// What is left once a database was opened.
+    type Ports: Ports;
+
+    // What is known of it.
+    ghost state: { Self → WorldState };
+
+    /// Returns the words of the command line, the program's name first.
+    fn words(&self) -> io::Result<Vec<String>>
+        ensures { MatchResult result (λ words. (state self.now).said (Ok (map string_bytes words.items))) (λ error. (state self.now).said (Err (error_kind error))) };
+
+    /// Returns standard input.
+    fn input(&self) -> Self::Input
+        ensures { (state self.now).input (Self.Input.remaining result) };
+
+    /// Opens the file with this name, and returns what reads it.
+    fn read(&self, path: &str) -> io::Result<Self::Reader>
+        ensures { MatchResult result (λ reader. (state self.now).holds path.now (Some (Self.Reader.remaining reader))) (λ _. (state self.now).holds path.now None) };
+
+    /// Opens the database file with this name; a file that is not there is made.
+    fn open(self, path: &str) -> Result<(Connection<FileStore<Self::File>>, Self::Ports), Error>
+        ensures found { IfOk result (λ c. HasCleanDisk (file_state c.0) → FindsIn ((state self).image path.now) (file_state c.0)) }
+        ensures opened { IfOk result (λ c. HasCleanDisk (file_state c.0) → IsOpened c.0) }
+
+        // A file that is new is one that any other program for SQLite files reads and writes.
+        ensures plain { IfOk result (λ c. HasCleanDisk (file_state c.0) → IsBlankAs false ((state self).image path.now) → (view c.0.store).has_sums ≡ false) }
+        ensures ports { IfOk result (λ c. (port : ℕ) → Within (Self.Ports.state c.1 port) ((state self).ports port)) }
+        ensures refused { IfErr result (λ error. (state self).refuses path.now error) };
+}
