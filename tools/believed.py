@@ -7,9 +7,9 @@ tools/believed.py --page [--check]          writes docs/SPEC.md anew, where each
 tools/believed.py --inside                  names the definitions that no public clause cites and that do not stand in specs/Inside/,
                                             and the reverse
 
-A definition is counted once, with the comment above it. The closure follows the names in the clause, and then in each definition, by
-the `use` lines of its file, through the crates of this repository. Types of the program are named apart, and what stands in the
-libraries beneath is counted by name alone.
+A definition is counted once, with the comment above it. Of a law what follows is counted: its premise is what a function promises. The
+closure follows the names in the clause, and then in each definition, by the `use` lines of its file, through the crates of this repository.
+Types of the program are named apart, and what stands in the libraries beneath is counted by name alone.
 
 The page has its own frame: what is outside its blocks stays, and so does the order in them. A block has a file's path and then definitions
 of it. One that is new goes after the last of its file, and one on which nothing rests goes. Whoever wants one elsewhere writes `name :`
@@ -124,16 +124,17 @@ class Book:
 
 
 def clause_of(crate, function, label):
-    """The text of a clause, and what its file brings in."""
+    """The text of a clause, of a law what follows, and what its file brings in."""
     owner, _, name = function.rpartition("::")
     for text in map(read, files(crate, "src")):
         if owner and not re.search(rf"impl[^\n]*\b{owner}\b", text):
             continue
-        head = re.search(rf"\bfn {name}\b.*?\n\s*\{{\n", text, re.S)
+        head = re.search(rf"\bfn {name}\b.*?\n\s*\{{\}}?\n", text, re.S)
         if head:
             for clause in re.finditer(r"ensures ?(\w*) ?\{ (.*?) \}\n", head.group(0), re.S):
                 if (clause[1] or "-") == label:
-                    return clause[2], uses_of(text, "ghost use")
+                    said = clause[2].rpartition(" → ")[2] if name.endswith("_law") else clause[2]
+                    return said, uses_of(text, "ghost use")
     sys.exit(f"no clause {label} of {function} in {crate}")
 
 

@@ -6,6 +6,7 @@ use Rattle.sqlite_schema.specs.Names.{table_named}
 use Rattle.row_model.specs.declared.table.Table.TheVariants.{Edition}
 use Rattle.tables.specs.Table.{shape_of}
 use Rattle.rolls.specs.State.{State, empty}
+use Rattle.solver.specs.SessionState.{SessionState}
 use Rattle.store.specs.Tables.{Opens}
 use Rattle.desk.specs.DeskState.{DeskState}
 use Rattle.wire.specs.declared.outcome.Served.{Served}
@@ -13,7 +14,6 @@ use Rattle.wire.specs.declared.outcome.StreamFault.{StreamFault}
 use Rattle.wire.specs.Served.{IsServed}
 use Rattle.web.specs.Serving.{AnswersMessage, AtDesk, at_desk, end_text, just_opened}
 use Rattle.cli.specs.Anew.{ServedAnew, BrokenAnew}
-use Rattle.cli.proofs.Opened.{no_session_yet}
 
 -- where no table is listed the edition's is not
 unlisted : (old : Database) (at : ℕ) → old.schema ≡ record { tables = []; indexes = []; views = [] } → table_named old.schema (shape_of Edition).name ≡ Some at → ⊥
@@ -31,7 +31,8 @@ opened_empty old new office none (inr (inr raised)) = absurd (unlisted old raise
 -- a desk that was opened of it has the empty office, and no session
 pub opened_anew : {S : Type 0} (old new : Database) (desk : DeskState S) → old.schema ≡ record { tables = []; indexes = []; views = [] } → Opens old new desk.office → desk.session ≡ None
     → at_desk desk ≡ just_opened empty
-opened_anew old new desk none opens no_session = no_session_yet desk no_session ∙ ap just_opened (opened_empty old new desk.office none opens)
+opened_anew old new desk none opens no_session =
+    ap (λ (session : Option SessionState). let at : AtDesk = record { office = desk.office; session = session } in at) no_session ∙ ap just_opened (opened_empty old new desk.office none opens)
 
 module _ (before after : AtDesk) (left0 w0 left w : Option (List ℕ)) (empty_at : before ≡ just_opened empty) where
   -- as it is from there

@@ -2,4 +2,5 @@ mod Anew
 mod Imports
 mod Opened
 mod Lines
+mod Statuses
 mod Writers

@@ -1,6 +1,5 @@
 -- What comes of a task where its office was opened or the opening refused, and what is left.
-use Rattle.std.proofs.Common.{◌≡◌, ◌⊎◌, inl, inr, ℕ, false, List, Result, Option, None, sym, subst, ap, ◌∙◌}
-use Rattle.std.specs.Prelude.{⊤}
+use Rattle.std.proofs.Common.{◌≡◌, ◌⊎◌, inl, inr, ℕ, false, List, Result, sym, subst, ap, ◌∙◌}
 use Rattle.sqlite.specs.Effect.{Database}
 use Rattle.sqlite.specs.State.{State as Seen, HasCleanDisk}
 use Rattle.sqlite.specs.Files.{IsOpened, file_state}
@@ -13,7 +12,6 @@ use Rattle.sqlite_trees.specs.declared.store.Store.{Ghosts}
 use Rattle.rolls.specs.declared.refusal.Refusal.{Refusal}
 use Rattle.rolls.specs.declared.refusal.Refusal.TheVariants as no
 use Rattle.rolls.specs.State.{State}
-use Rattle.solver.specs.SessionState.{SessionState}
 use Rattle.tables.specs.Causes.{IsStopped}
 use Rattle.store.specs.Causes.{IsHinderedOpening}
 use Rattle.store.specs.Reading.{IsDamaged}
@@ -21,19 +19,18 @@ use Rattle.store.specs.Editions.{latest}
 use Rattle.store.proofs.Standing.{in_latest}
 use Rattle.store.specs.Tables.{HasNone, Opens}
 use Rattle.desk.specs.DeskState.{DeskState}
-use Rattle.world.specs.WorldState.{Found, PortState, Within}
+use Rattle.world.specs.WorldState.{IsPeer, Peer, PortState, Within, some_port}
 use Rattle.wire.specs.declared.outcome.Served.{Served}
 use Rattle.wire.specs.declared.outcome.StreamFault.{StreamFault}
 use Rattle.wire.specs.Run.{MessageText}
 use Rattle.web.specs.Connections.{Connect}
-use Rattle.web.specs.Serving.{AnswersFrom, AnswersMessage, AtDesk, at_desk, just_opened}
+use Rattle.web.specs.Serving.{AnswersFrom, AnswersOffice}
 use Rattle.web.proofs.OneConnection.{connect_seen, connect_back}
-use Rattle.web.proofs.OneMessage.{message_seen}
+use Rattle.web.proofs.OneMessage.{office_seen}
 use Rattle.cli.specs.declared.tasks.Task.{Task}
 use Rattle.cli.specs.declared.tasks.Task.TheVariants as task
 use Rattle.cli.specs.Outcomes.{ComesOf, IsUnopened, MayDo, Outcome, refused}
 use Rattle.cli.specs.Databases.{ComesFrom, DoesOver, IsDone, IsFoundFor, IsOfficeIn, IsOfficeOf, IsWhyUnopened, LeftBy, TakesTo, PrintsOver, WasClean}
-use Rattle.cli.proofs.Writers.{at_once}
 
 -- what was opened is the office of the database before
 of_opened : (old new : Database) (office : State) → Opens old new office → IsOfficeOf old office
@@ -59,47 +56,33 @@ why_refused refusal before after (inl memory) = inl (ap refused memory)
 why_refused refusal before after (inr (inl storage)) = inr (inl (ap refused storage.0))
 why_refused refusal before after (inr (inr damaged)) = inr (inr (ap refused damaged.0))
 
--- a desk that keeps no session is as it was just opened
-pub no_session_yet : {S : Type 0} (desk : DeskState S) → desk.session ≡ None → at_desk desk ≡ just_opened desk.office
-no_session_yet desk none = ap (λ (session : Option SessionState). let at : AtDesk = record { office = desk.office; session = session } in at) none
-
 module _ {S : Type 0} (ghosts : Ghosts S) (ports : ℕ → PortState) where
-  -- what a task comes to over its tables it comes to at the desk
-  comes_of : (done : Task) (before after : DeskState S) (o : Outcome) → ComesFrom ghosts ports done before after o → ComesOf done (at_desk before) (at_desk after) o
-  comes_of (task.Ask asked) before after o from = record {
-    answer = from.0;
-    step = from.1.gets.step;
-    at_once = at_once before.office asked from.0 from.1.gets.at_once.round from.1.gets.at_once.repeated;
-    is = from.2;
-  }
-  comes_of (task.Serve serving) before after o (inl unbound) = inl (tt, (ap at_desk unbound.1.0, unbound.1.1))
+  -- what a task comes to over its tables it comes to at the office
+  comes_of : (done : Task) (before after : DeskState S) (o : Outcome) → ComesFrom ghosts ports done before after o → ComesOf done before.office after.office o
+  comes_of (task.Ask asked) before after o from = record { answer = from.0; step = from.1.gets.step; is = from.2 }
+  comes_of (task.Serve serving) before after o (inl unbound) = inl (tt, (ap (λ (desk : DeskState S). desk.office) unbound.1.0, unbound.1.1))
   comes_of (task.Serve serving) before after o (inr served) = inr (record {
     came = served.came;
     counted = served.counted;
-    served = connect_seen at_desk AnswersMessage (AnswersFrom ghosts) (λ b words bytes a step. message_seen ghosts b words bytes a step) (ports serving.port).comes (λ _ _. ⊤) (λ n found may. tt) before after served.came served.served;
+    served = connect_seen (λ desk. desk.office) AnswersOffice (AnswersFrom ghosts) (λ b words bytes a step. office_seen ghosts b words bytes a step) (ports serving.port).peers some_port.peers (λ n. record { comes = λ ends came. tt; leaves = λ ends left. tt }) before after served.came served.served;
     is = served.is;
   })
 
   -- what a task at a database comes to is an outcome of the task
   pub may_do : (done : Task) (first last : Held S) (o : Outcome) → DoesOver ghosts ports done first last o → MayDo done o
   may_do done first last o (inl not) = inl (subst IsUnopened (sym not.printed) (why_refused not.refusal (state ghosts first) (state ghosts last) not.why))
-  may_do done first last o (inr is) = inr (
-    is.desk.office,
-    is.fit,
-    at_desk is.next,
-    subst (λ (b : AtDesk). ComesOf done b (at_desk is.next) o) (no_session_yet is.desk is.no_session) (comes_of done is.desk is.next o is.done),
-  )
+  may_do done first last o (inr is) = inr (is.desk.office, is.fit, is.next.office, comes_of done is.desk is.next o is.done)
 
   -- a disk that is clean after a task was clean before it
   pub was_clean : (done : Task) (before after : DeskState S) → TakesTo ghosts ports done before after → WasClean (state ghosts before.store) (state ghosts after.store)
   was_clean (task.Ask asked) before after taken = taken.2
   was_clean (task.Serve serving) before after taken =
-      connect_back (λ desk. HasCleanDisk (state ghosts desk.store)) (AnswersFrom ghosts) (λ b words bytes a step. step.clean) (ports serving.port).comes before after taken.0 taken.1
+      connect_back (λ desk. HasCleanDisk (state ghosts desk.store)) (AnswersFrom ghosts) (λ b words bytes a step. step.clean) (ports serving.port).peers before after taken.0 taken.1
 
--- who came to what is known to be of these ports came to them
-pub came_within : {D : Type 0} (step : D → MessageText → List ℕ → D → Type 0) (some other : ℕ → Found → Type 0) → ((n : ℕ) (found : Found) → some n found → other n found) → (before after : D)
+-- who is known to be of these ports came to them
+pub came_within : {D : Type 0} (step : D → MessageText → List ℕ → D → Type 0) (some other : ℕ → Peer) → ((n : ℕ) → IsPeer (some n) (other n)) → (before after : D)
     (came : List (Result Served StreamFault)) → Connect step some before came after → Connect step other before came after
-came_within step some other may before after came served = connect_seen (λ d. d) step step (λ b words bytes n s. s) some other may before after came served
+came_within step some other is before after came served = connect_seen (λ d. d) step step (λ b words bytes n s. s) some other is before after came served
 
 -- so it is of all that is done with ports that were lent
 module _ {S : Type 0} (ghosts : Ghosts S) (lent ports : ℕ → PortState) (within : (port : ℕ) → Within (lent port) (ports port)) where
@@ -109,14 +92,14 @@ module _ {S : Type 0} (ghosts : Ghosts S) (lent ports : ℕ → PortState) (with
   comes_within (task.Serve serving) before after o (inr served) = inr (record {
     came = served.came;
     counted = served.counted;
-    served = came_within (AnswersFrom ghosts) (lent serving.port).comes (ports serving.port).comes (within serving.port).comes before after served.came served.served;
+    served = came_within (AnswersFrom ghosts) (lent serving.port).peers (ports serving.port).peers (within serving.port).peers before after served.came served.served;
     is = served.is;
   })
 
   takes_within : (done : Task) (before after : DeskState S) → TakesTo ghosts lent done before after → TakesTo ghosts ports done before after
   takes_within (task.Ask asked) before after taken = taken
   takes_within (task.Serve serving) before after taken =
-      (taken.0, came_within (AnswersFrom ghosts) (lent serving.port).comes (ports serving.port).comes (within serving.port).comes before after taken.0 taken.1)
+      (taken.0, came_within (AnswersFrom ghosts) (lent serving.port).peers (ports serving.port).peers (within serving.port).peers before after taken.0 taken.1)
 
   done_within : (A B : DeskState S → DeskState S → Type 0) → ((desk next : DeskState S) → A desk next → B desk next) → (first last : Held S) → IsDone ghosts A first last → IsDone ghosts B first last
   done_within A B more first last is = record {

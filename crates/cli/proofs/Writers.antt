@@ -1,19 +1,14 @@
 -- What is printed is printed of more, and what one of the two writers took is printed.
-use Rattle.std.proofs.Common.{◌≡◌, ◌⊎◌, inl, inr, ℕ, ◌+◌, List, ◌++◌, Option, None, Result, Ok, Err, IfOk, IfErr, MatchResult, Vec, String, refl, ap, ◌∙◌, sym, subst, arith}
+use Rattle.std.proofs.Common.{◌≡◌, ◌⊎◌, inl, inr, ℕ, ◌+◌, List, ◌++◌, Option, Result, Ok, Err, IfOk, IfErr, MatchResult, Vec, String, refl, ap, ◌∙◌, sym, subst, arith}
 use Rattle.std.specs.Prelude.{⊤}
 use Rattle.std.specs.Io.KnownBytes.{Appends}
 use Rattle.std.specs.declared.alloc.Global.{Global}
 use Rattle.wire.proofs.Known.{appends_compose, appends_none}
 use Rattle.rolls.specs.declared.refusal.Refusal.{Refusal}
 use Rattle.rolls.specs.declared.refusal.Refusal.TheVariants as no
-use Rattle.rolls.specs.declared.request.Reply.{Reply}
-use Rattle.rolls.specs.declared.request.Request.{Request}
-use Rattle.rolls.specs.State.{State}
 use Rattle.rolls.specs.RefusalInfo.{number_of, name_of}
-use Rattle.desk.specs.Keeping.{AnswersStored, AnswersRound}
-use Rattle.desk.specs.Sessions.{AnswersAtOnce}
 use Rattle.intake.specs.declared.TheConstants.{MAX_BYTES}
-use Rattle.world.specs.WorldState.{Found, IsReadOf}
+use Rattle.world.specs.WorldState.{Found, IsReadOf, Peer}
 use Rattle.web.specs.Connections.{AllServed, lines_after}
 use Rattle.wire.specs.Run.{MessageText}
 use Rattle.round_files.specs.declared.rounds.Trouble.{Trouble}
@@ -75,24 +70,20 @@ pub refused_ends : (r : Refusal) (old new : Took) (status : ℕ) → PrintsOf (�
 refused_ends r old new status (inl t) = t.5 ∙ ap (λ (o : Outcome). o.status) t.1
 refused_ends r old new status (inr failed) = failed.1
 
-module _ {D : Type 0} (step : D → MessageText → List ℕ → D → Type 0) (comes : ℕ → Found → Type 0) where
+module _ {D : Type 0} (step : D → MessageText → List ℕ → D → Type 0) (peers : ℕ → Peer) where
   -- the connections were served, and their lines printed after the port's
-  pub all_served : (before after : D) (port count : ℕ) (w0 w1 w : Option (List ℕ)) (f0 f1 f : ℕ) → Appends w0 w1 (listening port) → f1 ≡ f0 → AllServed step comes before count w1 w after → f ≡ f1
-      → Serves step comes port count before after w0 w f0 f 0
+  pub all_served : (before after : D) (port count : ℕ) (w0 w1 w : Option (List ℕ)) (f0 f1 f : ℕ) → Appends w0 w1 (listening port) → f1 ≡ f0 → AllServed step peers before count w1 w after → f ≡ f1
+      → Serves step peers port count before after w0 w f0 f 0
   all_served before after port count w0 w1 w f0 f1 f printed same served still =
       inl (prints (listening port ++ lines_after 0 served.came), record { came = served.came; counted = served.counted; served = served.served; is = refl }, still ∙ same, appends_compose w0 w1 w _ _ printed served.wrote, refl)
 
   -- what was served is printed on standard output alone
-  pub served_printed : (before after : D) (port count : ℕ) (w0 w v : Option (List ℕ)) (f0 f g ends : ℕ) → Serves step comes port count before after w0 w f0 f ends
-      → PrintsOf (IsServed step comes port count before after) (record { out = w0; err = v; failures = f0 + g }) (record { out = w; err = v; failures = f + g }) ends
+  pub served_printed : (before after : D) (port count : ℕ) (w0 w v : Option (List ℕ)) (f0 f g ends : ℕ) → Serves step peers port count before after w0 w f0 f ends
+      → PrintsOf (IsServed step peers port count before after) (record { out = w0; err = v; failures = f0 + g }) (record { out = w; err = v; failures = f + g }) ends
   served_printed before after port count w0 w v f0 f g ends (inl s) =
       let printed : s.0 ≡ prints (listening port ++ lines_after 0 s.1.came) = s.1.is in
       inl (s.0, s.1, ap (λ n. n + g) s.2, s.3, subst (λ (o : Outcome). Appends v v o.err) (sym printed) (appends_none v), s.4 ∙ sym (ap (λ (o : Outcome). o.status) printed))
   served_printed before after port count w0 w v f0 f g ends (inr s) = let more : f ≡ f0 + 1 = s.0 in inr (omega (arith, more), s.1)
-
--- where no session is cached no preview is read of one
-pub at_once : (o : State) (q : Request) (a : Result Reply Refusal) → AnswersRound o q a → AnswersStored o q a → AnswersAtOnce o None q a
-at_once o q a round repeated = record { round = round; repeated = repeated; preview = λ is allowed kept. cc }
 
 -- a refusal of a file that is read is printed
 pub unread : (r : Refusal) → ((r ≡ no.Memory) ⊎ (r ≡ no.Storage)) → IsUnreadFile (refused r)

@@ -6,15 +6,9 @@ use Rattle.sqlite_disk.specs.declared.Disk as disk
 use Rattle.world.specs.WorldState.{WorldState}
 use Rattle.cli.specs.declared.unread.Unread.TheVariants as unread
 use Rattle.cli.specs.Outputs.{Both}
-use Rattle.cli.specs.Outcomes.{ComesTo, Outcome, Prints, of_unread}
+use Rattle.cli.specs.Outcomes.{Outcome, Prints, of_unread}
 use Rattle.cli.specs.Databases.{Came, WordsAt}
 use Rattle.cli.specs.Anew.{StreamsAnew}
-
--- the line of the words was done in this world, and the stream was not read
-pub record IsCommandDone {D : Type 0} {g : disk.Ghosts D} {R O E : Type 0} (world : WorldState) (words : List (List ℕ)) (came : Came D g) (before after : R) (old new : Both O E) (status : ℕ) : Type 0 where
-  pub printed : Prints (ComesTo words) old new status
-  pub file : WordsAt world words came old new status
-  pub unread : after ≡ before
 
 -- the stream was served to standard output alone, and no file was opened
 pub record IsStreamDone {C O E : Type 0} (left0 left : Option (List ℕ)) (came : Option C) (old new : Both O E) (status : ℕ) : Type 0 where
@@ -36,7 +30,7 @@ module _ {D : Type 0} {g : disk.Ghosts D} {O E : Type 0} (world : WorldState) (l
   -- a line of more than one word was done, or the stream was served, or it was printed why the words could not be read
   abbrev pub Follows : Result (List (List ℕ)) ErrorKind → Came D g → Both O E → Both O E → ℕ → Type 0
   Follows (Ok words) came old new status =
-      (1 < length words → Prints (ComesTo words) old new status × WordsAt world words came old new status)
+      (1 < length words → WordsAt world words came old new status)
       × (length words ≤ 1 → (left : Option (List ℕ)) × IsStreamDone left0 left came old new status)
   Follows (Err kind) came old new status = (came ≡ None) × Prints (OfUnread kind) old new status
 

@@ -93,7 +93,7 @@ module _ {S : Type 0} (ghosts : Ghosts S) (ports : ℕ → PortState) where
   abbrev pub TakesTo : Task → DeskState S → DeskState S → Type 0
   TakesTo (task.Ask asked) before after =
       (answer : Result Reply Refusal) × Step layers before.office asked answer after.office × WasClean (state ghosts before.store) (state ghosts after.store)
-  TakesTo (task.Serve serving) before after = (came : List (Result Served StreamFault)) × Connect (AnswersFrom ghosts) (ports serving.port).comes before came after
+  TakesTo (task.Serve serving) before after = (came : List (Result Served StreamFault)) × Connect (AnswersFrom ghosts) (ports serving.port).peers before came after
 
 module _ {S : Type 0} (ghosts : Ghosts S) where
   -- The office of the database was opened at this desk, this was done there, and the tables stand for the office after it. From the opening
@@ -142,19 +142,24 @@ IsOfficeIn image office = (db : Trees) → HoldsDatabase image db → (it : Data
 abbrev pub Came : (D : Type 0) → disk.Ghosts D → Type 0
 Came D g = Option (Result (Files D) (Error × FileStore D g))
 
--- The database file with this name was opened, with its first contents, a task was done over it, printed and left, and the file was closed,
--- which came to this. The office that was found is the one of the file.
-pub record DoneOver {D : Type 0} {g : disk.Ghosts D} {O E : Type 0} (world : WorldState) (name : List ℕ) (done : Task)
-    (came : Result (Files D) (Error × FileStore D g)) (old new : Both O E) (status : ℕ) : Type 0 where
-  pub first : Held (FileStore D g)
-  pub last : Held (FileStore D g)
+-- What is left of the database file with this name: it was opened, with its first contents, a task was done over it, and it was closed, to
+-- this end. The office that was found is the one of the file.
+pub record LeavesFile {D : Type 0} {g : disk.Ghosts D} (world : WorldState) (name : List ℕ) (done : Task)
+    (first last : Held (FileStore D g)) (came : Result (Files D) (Error × FileStore D g)) (status : ℕ) : Type 0 where
   pub found : HasCleanDisk (file_state first) → FindsIn (world.image name) (file_state first)
   pub opened : HasCleanDisk (file_state first) → IsOpened first
   pub plain : HasCleanDisk (file_state first) → IsBlankAs false (world.image name) → (view first.store).has_sums ≡ false
   pub of_file : (office : State) → IsFoundFor (file_state first) (file_state last) office → HasCleanDisk (file_state last) → IsOfficeIn (world.image name) office
-  pub printed : Prints (PrintsOver over_files world.ports name done first last) old new status
   pub left : LeftBy over_files world.ports done status first last
   pub closing : IsClosing last came
+
+-- a task was done over the database file with this name: what is left of it, and what was printed, of one connection
+pub record DoneOver {D : Type 0} {g : disk.Ghosts D} {O E : Type 0} (world : WorldState) (name : List ℕ) (done : Task)
+    (came : Result (Files D) (Error × FileStore D g)) (old new : Both O E) (status : ℕ) : Type 0 where
+  pub first : Held (FileStore D g)
+  pub last : Held (FileStore D g)
+  pub leaves : LeavesFile world name done first last came status
+  pub printed : Prints (PrintsOver over_files world.ports name done first last) old new status
 
 -- the refusal of a database file that is not opened by this fault
 abbrev pub IsRefusalOf : Error → Refusal → Type 0

@@ -1,5 +1,5 @@
 -- What a line of the program comes to: what it prints where, and its status.
-use Rattle.std.specs.Prelude.{◌≡◌, ◌⊎◌, ℕ, ◌+◌, ◌<◌, ◌≤◌, List, [], ◌∷◌, ◌++◌, length, flat_map, codes, decimal, string_bytes, ⊤, Option, None, Result, Ok, Err, String}
+use Rattle.std.specs.Prelude.{◌≡◌, ◌⊎◌, ℕ, ◌+◌, ◌<◌, ◌≤◌, List, [], ◌∷◌, ◌++◌, length, flat_map, codes, decimal, string_bytes, ⊤, Option, Result, Ok, Err, String}
 use Rattle.std.specs.declared.alloc.Global.{Global}
 use Rattle.std.specs.Io.KnownBytes.{Appends}
 use Rattle.rolls.specs.declared.import.ImportKind.{ImportKind}
@@ -12,15 +12,14 @@ use Rattle.rolls.specs.declared.request.Request.{Request}
 use Rattle.rolls.specs.declared.request.Request.TheVariants as request
 use Rattle.rolls.specs.declared.TheConstants.{MAX_IMPORT_BYTES}
 use Rattle.intake.specs.declared.TheConstants.{MAX_BYTES}
-use Rattle.world.specs.WorldState.{Found, IsReadOf, PortState, some_port}
+use Rattle.world.specs.WorldState.{Found, IsReadOf, Peer, PortState, some_port}
 use Rattle.rolls.specs.State.{State}
 use Rattle.rolls.specs.Fit.{IsFit}
 use Rattle.rolls.specs.Run.{Step}
 use Rattle.rolls.specs.RefusalInfo.{number_of, name_of}
 use Rattle.outside.specs.Layers.{layers}
-use Rattle.desk.specs.Sessions.{AnswersAtOnce}
 use Rattle.web.specs.Connections.{Connect, lines_after}
-use Rattle.web.specs.Serving.{AnswersMessage, AtDesk, just_opened}
+use Rattle.web.specs.Serving.{AnswersOffice}
 use Rattle.wire.specs.Run.{MessageText}
 use Rattle.round_files.specs.Rounds.{IsSolved, IsChecked}
 use Rattle.round_files.specs.declared.rounds.Trouble.{Trouble}
@@ -128,11 +127,10 @@ OnFile holds Is o =
 abbrev pub IsUnopened : Outcome → Type 0
 IsUnopened o = (o ≡ refused no.Memory) ⊎ ((o ≡ refused no.Storage) ⊎ (o ≡ refused no.Damaged))
 
--- a request was asked of an office, and this is what comes of the answer; what allocates nothing is answered
+-- a request was asked of an office, and this is what comes of the answer
 pub record IsAsked (asked : Request) (before after : State) (o : Outcome) : Type 0 where
   pub answer : Result Reply Refusal
   pub step : Step layers before asked answer after
-  pub at_once : AnswersAtOnce before None asked answer
   pub is : o ≡ of_answer answer
 
 -- the line that is printed once a port is bound
@@ -147,27 +145,27 @@ no_port port = codes "no port " ++ decimal port ++ 10 ∷ []
 abbrev pub IsUnbound : {D : Type 0} → ℕ → D → D → Outcome → Type 0
 IsUnbound port before after o = (after ≡ before) × (o ≡ prints_err 1 (no_port port))
 
-module _ {D : Type 0} (step : D → MessageText → List ℕ → D → Type 0) (comes : ℕ → Found → Type 0) where
+module _ {D : Type 0} (step : D → MessageText → List ℕ → D → Type 0) (peers : ℕ → Peer) where
   -- this many connections, the first that came, were served at a desk
   pub record IsServed (port count : ℕ) (before after : D) (o : Outcome) : Type 0 where
     pub came : List (Result Served StreamFault)
     pub counted : length came ≡ count
-    pub served : Connect step comes before came after
+    pub served : Connect step peers before came after
     pub is : o ≡ prints (listening port ++ lines_after 0 came)
 
 module _ {D : Type 0} (step : D → MessageText → List ℕ → D → Type 0) (at : PortState) where
   -- those of this port were, or it could not be bound
   abbrev pub ServesAt : ℕ → ℕ → D → D → Outcome → Type 0
-  ServesAt port count before after o = (at.is_taken × IsUnbound port before after o) ⊎ IsServed step at.comes port count before after o
+  ServesAt port count before after o = (at.is_taken × IsUnbound port before after o) ⊎ IsServed step at.peers port count before after o
 
--- what a task comes to at a desk, and what is at the desk after it
-abbrev pub ComesOf : Task → AtDesk → AtDesk → Outcome → Type 0
-ComesOf (task.Ask asked) before after o = IsAsked asked before.office after.office o
-ComesOf (task.Serve serving) before after o = ServesAt AnswersMessage some_port serving.port serving.count before after o
+-- what a task comes to at an office, and the office after it
+abbrev pub ComesOf : Task → State → State → Outcome → Type 0
+ComesOf (task.Ask asked) before after o = IsAsked asked before after o
+ComesOf (task.Serve serving) before after o = ServesAt AnswersOffice some_port serving.port serving.count before after o
 
--- what a task at a database may come to: it could not be opened, or what the task comes to at a fit office that was just opened
+-- what a task at a database may come to: it could not be opened, or what the task comes to at a fit office
 abbrev pub MayDo : Task → Outcome → Type 0
-MayDo task o = IsUnopened o ⊎ ((office : State) × IsFit office × (after : AtDesk) × ComesOf task (just_opened office) after o)
+MayDo task o = IsUnopened o ⊎ ((office : State) × IsFit office × (after : State) × ComesOf task office after o)
 
 -- what a task at the database with this name may come to
 abbrev pub MayDoAt : List ℕ → Task → Outcome → Type 0

@@ -14,6 +14,7 @@
 mod databases;
 mod files;
 mod importing;
+mod laws;
 mod named;
 mod opening;
 mod outputs;
@@ -25,6 +26,7 @@ mod tasks;
 mod texts;
 mod unread;
 
+pub use laws::printed_law;
 pub use opening::Closing;
 pub use outputs::Outputs;
 pub use program::{begin, do_all, serve_anew, start};

@@ -4,7 +4,8 @@ ghost use Rattle.std.specs.Prelude.{◌≡◌, ◌-◌, ◌^◌, ◌<◌, ◌≤
 ghost use Rattle.std.specs.IoError.{error_kind};
 ghost use Rattle.cli.specs.Outputs.{CanFail};
 ghost use Rattle.cli.specs.Anew.{ServedAnew, BrokenAnew};
-ghost use Rattle.cli.specs.Begun.{IsAllDone, IsCommandDone, IsStreamDone, IsUntaken};
+ghost use Rattle.cli.specs.Begun.{IsAllDone, IsStreamDone, IsUntaken};
+ghost use Rattle.cli.specs.Databases.{WordsAt};
 
 use crate::opening::Closing;
 use crate::outputs::Outputs;
@@ -56,7 +57,7 @@ pub fn begin<W: World, R: Source, O: Sink, E: Sink>(
     requires outputs { CanFail outputs.old }
 
     // A line does not read the stream, and a stream opens no file. Where the words cannot be read neither is touched.
-    ensures line { IfOk given (λ words. 1 < length words.items → IsCommandDone (W.state world) (map string_bytes words.items) result.1 reader.old reader.new outputs.old outputs.new result.0) }
+    ensures line { IfOk given (λ words. 1 < length words.items → (reader.new ≡ reader.old) × WordsAt (W.state world) (map string_bytes words.items) result.1 outputs.old outputs.new result.0) }
     ensures stream { IfOk given (λ words. length words.items ≤ 1 → IsStreamDone (R.left reader.old) (R.left reader.new) result.1 outputs.old outputs.new result.0) }
     ensures unread { IfErr given (λ error. IsUntaken (error_kind error) result.1 reader.old reader.new outputs.old outputs.new result.0) }
     ensures status { result.0 ≤ 2 }

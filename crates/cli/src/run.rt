@@ -2,7 +2,7 @@
 
 ghost use Rattle.std.specs.Prelude.{◌-◌, ◌^◌, ◌<◌, ◌≤◌, map, string_bytes};
 ghost use Rattle.cli.specs.Outputs.{CanFail};
-ghost use Rattle.cli.specs.Outcomes.{Printed, Prints, ComesTo, of_unread};
+ghost use Rattle.cli.specs.Outcomes.{Printed, of_unread};
 ghost use Rattle.cli.specs.Databases.{LineAt, WordsAt};
 
 use crate::importing::{ask_made, import_file};
@@ -102,8 +102,8 @@ pub fn run_command<W: World, O: Sink, E: Sink>(
     outputs: &mut Outputs<O, E>,
 ) -> (u8, Option<Closing<W::File>>)
     requires { CanFail outputs.old }
-    ensures printed { Prints (ComesTo (map string_bytes words.now)) outputs.old outputs.new result.0 }
     ensures file { WordsAt (W.state world) (map string_bytes words.now) result.1 outputs.old outputs.new result.0 }
+    ensures status { result.0 ≤ 2 }
 {
     match command(alloc, words) {
         Ok(line) => do_line(alloc, world, line, outputs),

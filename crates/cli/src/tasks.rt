@@ -45,11 +45,11 @@ fn serve_at<S: Alter, D: Door, O: Sink>(
     out: &mut O,
 ) -> u8
     requires { O.failures out.old < 2 ^ 64 - 1 }
-    ensures printed { Serves (AnswersFrom S.Store) (D.comes door.old) serving.port serving.count desk.old desk.new (O.written out.old) (O.written out.new) (O.failures out.old) (O.failures out.new) result }
+    ensures printed { Serves (AnswersFrom S.Store) (D.peers door.old) serving.port serving.count desk.old desk.new (O.written out.old) (O.written out.new) (O.failures out.old) (O.failures out.new) result }
 
     // Nothing is served before the line of the port is out.
-    ensures cut { result ≡ 1 → IsCutOff (AnswersFrom S.Store) (D.comes door.old) desk.old serving.port serving.count (O.written out.old) (O.written out.new) desk.new }
-    ensures served { (came : _) × Connect (AnswersFrom S.Store) (D.comes door.old) desk.old came desk.new }
+    ensures cut { result ≡ 1 → IsCutOff (AnswersFrom S.Store) (D.peers door.old) desk.old serving.port serving.count (O.written out.old) (O.written out.new) desk.new }
+    ensures served { (came : _) × Connect (AnswersFrom S.Store) (D.peers door.old) desk.old came desk.new }
 {
     let Ok(()) = write_all(
         out,
@@ -72,8 +72,8 @@ fn serve_bound<S: Alter, D: Door, O: Sink, E: Sink>(
     outputs: &mut Outputs<O, E>,
 ) -> u8
     requires { CanFail outputs.old }
-    ensures printed { Prints (λ o. MatchResult bound (λ door. IsServed (AnswersFrom S.Store) (D.comes door) serving.port serving.count desk.old desk.new o) (λ _. IsUnbound serving.port desk.old desk.new o)) outputs.old outputs.new result }
-    ensures served { IfOk bound (λ door. (came : _) × Connect (AnswersFrom S.Store) (D.comes door) desk.old came desk.new) }
+    ensures printed { Prints (λ o. MatchResult bound (λ door. IsServed (AnswersFrom S.Store) (D.peers door) serving.port serving.count desk.old desk.new o) (λ _. IsUnbound serving.port desk.old desk.new o)) outputs.old outputs.new result }
+    ensures served { IfOk bound (λ door. (came : _) × Connect (AnswersFrom S.Store) (D.peers door) desk.old came desk.new) }
 
     // Where no port is bound nothing is done at the desk.
     ensures unbound { IfErr bound (λ _. desk.new ≡ desk.old) }

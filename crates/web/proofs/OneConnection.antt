@@ -1,14 +1,13 @@
 -- One more connection is served, and its line written.
-use Rattle.std.proofs.Common.{◌≡◌, ◌<◌, ◌+◌, ◌∙◌, ℕ, suc, List, [], ◌∷◌, ◌++◌, length, take, Option, Some, None, Result, Ok, Err, IfOk, IfErr, MatchResult, OnErr, inl, inr, refl, sym, ap, subst, arith, append-nil}
+use Rattle.std.proofs.Common.{◌≡◌, ◌<◌, ◌+◌, ◌∙◌, ℕ, suc, List, [], ◌∷◌, ◌++◌, length, take, Option, Some, None, Result, Ok, Err, OnErr, inl, inr, refl, sym, ap, subst, arith, append-nil}
 use Rattle.std.specs.Io.KnownBytes.{Appends}
 use Rattle.std.proofs.lemmas.List.{append_assoc, length-append}
 use Rattle.wire.proofs.Known.{appends_compose}
 use Rattle.wire.specs.declared.outcome.Served.{Served}
 use Rattle.wire.specs.declared.outcome.StreamFault.{StreamFault}
-use Rattle.wire.specs.declared.outcome.StreamFault.TheVariants.{Read}
 use Rattle.wire.specs.Run.{MessageText}
-use Rattle.world.specs.WorldState.{Found}
-use Rattle.web.specs.Connections.{IsStreamed, Connects, Connect, connection_line, lines_after, AllServed, SomeServed}
+use Rattle.world.specs.WorldState.{IsPeer, Peer}
+use Rattle.web.specs.Connections.{Connects, Connect, connection_line, lines_after, AllServed, SomeServed}
 use Rattle.web.specs.Serving.{end_text}
 use Rattle.web.proofs.Seen.{Shows, GivesBack, is_served_seen, served_back}
 
@@ -17,10 +16,10 @@ Came = Result Served StreamFault
 
 module _ {D : Type 0} (step : D → MessageText → List ℕ → D → Type 0) where
   -- one connection more
-  connect_more : (comes : ℕ → Found → Type 0) (before mid after : D) (came : List Came) (one : Came) → Connect step comes before came mid → Connects step (comes (length came)) mid one after
-      → Connect step comes before (came ++ one ∷ []) after
-  connect_more comes before mid after [] one so_far last = (after, subst (λ (d : D). Connects step (comes 0) d one after) so_far last, refl)
-  connect_more comes before mid after (c ∷ came) one so_far last = (so_far.0, so_far.1, connect_more (λ n. comes (suc n)) so_far.0 mid after came one so_far.2 last)
+  connect_more : (peers : ℕ → Peer) (before mid after : D) (came : List Came) (one : Came) → Connect step peers before came mid → Connects step (peers (length came)) mid one after
+      → Connect step peers before (came ++ one ∷ []) after
+  connect_more peers before mid after [] one so_far last = (after, subst (λ (d : D). Connects step (peers 0) d one after) so_far last, refl)
+  connect_more peers before mid after (c ∷ came) one so_far last = (so_far.0, so_far.1, connect_more (λ n. peers (suc n)) so_far.0 mid after came one so_far.2 last)
 
 -- its line comes after the others
 lines_more : (n : ℕ) (came : List Came) (one : Came) → lines_after n (came ++ one ∷ []) ≡ lines_after n came ++ connection_line (n + length came + 1) one
@@ -43,74 +42,77 @@ pub at_fault : {A E P : Type 0} (r : Result A E) → P → OnErr r P
 at_fault (Ok a) p = tt
 at_fault (Err e) p = p
 
-module _ {D : Type 0} (step : D → MessageText → List ℕ → D → Type 0) (comes : ℕ → Found → Type 0) where
+module _ {D : Type 0} (step : D → MessageText → List ℕ → D → Type 0) (peers : ℕ → Peer) where
   -- the connection that is served now is the next one
-  next_one : (mid after : D) (n : ℕ) (came : List Came) (one : Came) → length came ≡ n → Connects step (comes n) mid one after → Connects step (comes (length came)) mid one after
-  next_one mid after n came one counted last = subst (λ k. Connects step (comes k) mid one after) (sym counted) last
+  next_one : (mid after : D) (n : ℕ) (came : List Came) (one : Came) → length came ≡ n → Connects step (peers n) mid one after → Connects step (peers (length came)) mid one after
+  next_one mid after n came one counted last = subst (λ k. Connects step (peers k) mid one after) (sym counted) last
 
   -- one more is served and its line printed
-  pub one_more : (before mid after : D) (n : ℕ) (w0 w w' : Option (List ℕ)) (one : Came) → AllServed step comes before n w0 w mid → Connects step (comes n) mid one after
-      → Appends w w' (connection_line (n + 1) one) → AllServed step comes before (n + 1) w0 w' after
+  pub one_more : (before mid after : D) (n : ℕ) (w0 w w' : Option (List ℕ)) (one : Came) → AllServed step peers before n w0 w mid → Connects step (peers n) mid one after
+      → Appends w w' (connection_line (n + 1) one) → AllServed step peers before (n + 1) w0 w' after
   one_more before mid after n w0 w w' one so_far last wrote = record {
     came = so_far.came ++ one ∷ [];
     counted = length-append so_far.came (one ∷ []) ∙ ap (λ k. k + 1) so_far.counted;
-    served = connect_more step comes before mid after so_far.came one so_far.served (next_one mid after n so_far.came one so_far.counted last);
+    served = connect_more step peers before mid after so_far.came one so_far.served (next_one mid after n so_far.came one so_far.counted last);
     wrote = subst (λ ls. Appends w0 w' ls) (sym (next_line n so_far.came one so_far.counted)) (appends_compose w0 w w' _ _ so_far.wrote wrote);
   }
 
   -- one more is served, and its line is cut
-  pub one_cut : (before mid after : D) (n count : ℕ) (w0 w w' : Option (List ℕ)) (one : Came) → n < count → AllServed step comes before n w0 w mid → Connects step (comes n) mid one after
-      → ((k : ℕ) × (k < length (connection_line (n + 1) one)) × Appends w w' (take k (connection_line (n + 1) one))) → SomeServed step comes before count w0 w' after
+  pub one_cut : (before mid after : D) (n count : ℕ) (w0 w w' : Option (List ℕ)) (one : Came) → n < count → AllServed step peers before n w0 w mid → Connects step (peers n) mid one after
+      → ((k : ℕ) × (k < length (connection_line (n + 1) one)) × Appends w w' (take k (connection_line (n + 1) one))) → SomeServed step peers before count w0 w' after
   one_cut before mid after n count w0 w w' one few so_far last wrote =
       let counted : length so_far.came ≡ n = so_far.counted in
       record {
         earlier = so_far.came;
         last = one;
         few = omega (arith, counted, few);
-        served = connect_more step comes before mid after so_far.came one so_far.served (next_one mid after n so_far.came one so_far.counted last);
+        served = connect_more step peers before mid after so_far.came one so_far.served (next_one mid after n so_far.came one so_far.counted last);
         kept = wrote.0;
         cut = rw counted wrote.1;
         wrote = rw counted (appends_compose w0 w w' _ _ so_far.wrote wrote.2);
       }
 
-module _ {D : Type 0} (step : D → MessageText → List ℕ → D → Type 0) where
-  -- what became of the next connection, whether it was accepted or not
-  pub came_next : {A E : Type 0} (first now : ℕ → Found → Type 0) (k : ℕ) (left : A → Option (List ℕ)) (before after : D) (accepted : Result A E) (came : Came)
-      → ((n : ℕ) (found : Found) → now n found → first (n + k) found) → MatchResult accepted (λ a. now 0 (Some (left a))) (λ _. now 0 None)
-      → IfOk accepted (λ a. IsStreamed step (left a) before came after) → IfErr accepted (λ _. (came ≡ Err Read) × (after ≡ before)) → Connects step (first k) before came after
-  came_next first now k left before after (Ok a) came moved comes streamed failed =
-      let at : 0 + k ≡ k = omega arith in
-      inl (left a, subst (λ n. first n (Some (left a))) at (moved 0 (Some (left a)) comes), streamed)
-  came_next first now k left before after (Err e) came moved comes streamed failed =
-      let at : 0 + k ≡ k = omega arith in
-      inr (subst (λ n. first n None) at (moved 0 None comes), failed.0, failed.1)
+-- who connects now
+pub here : (first now : ℕ → Peer) (k : ℕ) → ((n : ℕ) → IsPeer (now n) (first (n + k))) → IsPeer (now 0) (first k)
+here first now k moved =
+    let at : 0 + k ≡ k = omega arith in
+    subst (λ m. IsPeer (now 0) (first m)) at (moved 0)
 
 -- what comes after the next connection comes one later
-pub moves : (first now after : ℕ → Found → Type 0) (k : ℕ) → ((n : ℕ) (found : Found) → now n found → first (n + k) found)
-    → ((n : ℕ) (found : Found) → after n found → now (n + 1) found) → (n : ℕ) (found : Found) → after n found → first (n + (k + 1)) found
-moves first now after k moved next n found comes =
+pub moves : (first now after : ℕ → Peer) (k : ℕ) → ((n : ℕ) → IsPeer (now n) (first (n + k))) → ((n : ℕ) → IsPeer (after n) (now (n + 1))) → (n : ℕ) → IsPeer (after n) (first (n + (k + 1)))
+moves first now after k moved next n =
     let at : n + 1 + k ≡ n + (k + 1) = omega arith in
-    subst (λ m. first m found) at (moved (n + 1) found (next n found comes))
+    subst (λ m. IsPeer (after n) (first m)) at
+    (record { comes = λ ends may. (moved (n + 1)).comes ends ((next n).comes ends may); leaves = λ ends may. (moved (n + 1)).leaves ends ((next n).leaves ends may) })
 
--- connections at a desk are connections of what is seen of it, and of more that could come
+-- what was served at a desk was served at what is seen of it, and of somebody of whom less is known
 module _ {D S : Type 0} (see : D → S) (step : S → MessageText → List ℕ → S → Type 0) (seen : D → MessageText → List ℕ → D → Type 0) (shows : Shows see step seen) where
-  connects_seen : (one other : Found → Type 0) (more : (found : Found) → one found → other found) (before after : D) (came : Came) → Connects seen one before came after → Connects step other (see before) came (see after)
-  connects_seen one other more before after came (inl s) =
-      inl (s.0, more (Some s.0) s.1, (s.2.0, s.2.1, s.2.2, is_served_seen see step end_text seen shows before after s.0 s.2.0 s.2.1 s.2.2 came s.2.3))
-  connects_seen one other more before after came (inr failed) = inr (more None failed.0, failed.1, ap see failed.2)
+  pub connects_seen : (one other : Peer) → IsPeer one other → (before after : D) (came : Came) → Connects seen one before came after → Connects step other (see before) came (see after)
+  connects_seen one other is before after came (inl s) = inl (
+    s.0,
+    is.comes (Some s.0) s.1,
+    s.2,
+    is.leaves s.2 s.3,
+    record {
+      served = is_served_seen see step end_text seen shows before after s.0.left s.0.written s.2.left s.2.written came s.4.served;
+      read_count = s.4.read_count;
+      write_count = s.4.write_count;
+    },
+  )
+  connects_seen one other is before after came (inr failed) = inr (is.comes None failed.0, failed.1, ap see failed.2)
 
-  pub connect_seen : (some other : ℕ → Found → Type 0) → ((n : ℕ) (found : Found) → some n found → other n found) → (before after : D) (came : List Came) → Connect seen some before came after
+  pub connect_seen : (some other : ℕ → Peer) → ((n : ℕ) → IsPeer (some n) (other n)) → (before after : D) (came : List Came) → Connect seen some before came after
       → Connect step other (see before) came (see after)
-  connect_seen some other may before after [] none = ap see none
-  connect_seen some other may before after (one ∷ more) c =
-      (see c.0, connects_seen (some 0) (other 0) (may 0) before c.0 one c.1, connect_seen (λ n. some (suc n)) (λ n. other (suc n)) (λ n. may (suc n)) c.0 after more c.2)
+  connect_seen some other is before after [] none = ap see none
+  connect_seen some other is before after (one ∷ more) c =
+      (see c.0, connects_seen (some 0) (other 0) (is 0) before c.0 one c.1, connect_seen (λ n. some (suc n)) (λ n. other (suc n)) (λ n. is (suc n)) c.0 after more c.2)
 
 -- what a step gives back connections do
 module _ {D : Type 0} (P : D → Type 0) (step : D → MessageText → List ℕ → D → Type 0) (back : GivesBack P step) where
-  connects_back : (comes : Found → Type 0) (before after : D) (came : Came) → Connects step comes before came after → P after → P before
-  connects_back comes before after came (inl s) p = served_back P step end_text back before after s.0 s.2.0 s.2.1 s.2.2 came s.2.3 p
-  connects_back comes before after came (inr failed) p = subst P failed.2 p
+  connects_back : (peer : Peer) (before after : D) (came : Came) → Connects step peer before came after → P after → P before
+  connects_back peer before after came (inl s) p = served_back P step end_text back before after s.0.left s.0.written s.2.left s.2.written came s.4.served p
+  connects_back peer before after came (inr failed) p = subst P failed.2 p
 
-  pub connect_back : (comes : ℕ → Found → Type 0) (before after : D) (came : List Came) → Connect step comes before came after → P after → P before
-  connect_back comes before after [] none p = subst P none p
-  connect_back comes before after (one ∷ more) c p = connects_back (comes 0) before c.0 one c.1 (connect_back (λ n. comes (suc n)) c.0 after more c.2 p)
+  pub connect_back : (peers : ℕ → Peer) (before after : D) (came : List Came) → Connect step peers before came after → P after → P before
+  connect_back peers before after [] none p = subst P none p
+  connect_back peers before after (one ∷ more) c p = connects_back (peers 0) before c.0 one c.1 (connect_back (λ n. peers (suc n)) c.0 after more c.2 p)

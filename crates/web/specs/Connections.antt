@@ -6,25 +6,28 @@ use Rattle.wire.specs.declared.outcome.End.TheVariants.{Closed, Unfinished, BadH
 use Rattle.wire.specs.declared.outcome.Served.{Served}
 use Rattle.wire.specs.declared.outcome.StreamFault.{StreamFault}
 use Rattle.wire.specs.declared.outcome.StreamFault.TheVariants.{Memory, Read, Write}
-use Rattle.wire.specs.Run.{MessageText}
+use Rattle.wire.specs.Run.{MessageText, read_failed, write_failed}
 use Rattle.wire.specs.Served.{IsServed}
-use Rattle.world.specs.WorldState.{Found}
+use Rattle.world.specs.WorldState.{Ends, Peer}
 use Rattle.web.specs.Serving.{end_text}
 
 module _ {D : Type 0} (step : D → MessageText → List ℕ → D → Type 0) where
-  -- a stream of these bytes, where they are known, was served at a desk, to its end or until a fault
-  abbrev pub IsStreamed : Option (List ℕ) → D → Result Served StreamFault → D → Type 0
-  IsStreamed left0 before came after = (w0 left w : Option (List ℕ)) × IsServed step end_text before left0 w0 came after left w
+  -- the stream of a connection was served at a desk, to its end or until a fault of reading or writing, which is the one that its end had
+  pub record IsStreamed (first : Ends) (before : D) (came : Result Served StreamFault) (after : D) (last : Ends) : Type 0 where
+    pub served : IsServed step end_text before first.left first.written came after last.left last.written
+    pub read_count : last.read_failures ≡ first.read_failures + read_failed came
+    pub write_count : last.write_failures ≡ first.write_failures + write_failed came
 
   -- the stream of a connection was served; one that could not be accepted is a fault of reading, and leaves what is at the desk
-  abbrev pub Connects : (Found → Type 0) → D → Result Served StreamFault → D → Type 0
-  Connects comes before came after =
-      ((left0 : Option (List ℕ)) × comes (Some left0) × IsStreamed left0 before came after) ⊎ (comes None × (came ≡ Err Read) × (after ≡ before))
+  abbrev pub Connects : Peer → D → Result Served StreamFault → D → Type 0
+  Connects peer before came after =
+      ((first : Ends) × peer.comes (Some first) × (last : Ends) × peer.leaves last × IsStreamed first before came after last)
+      ⊎ (peer.comes None × (came ≡ Err Read) × (after ≡ before))
 
-  -- the connections that came, one after another
-  abbrev pub Connect : (ℕ → Found → Type 0) → D → List (Result Served StreamFault) → D → Type 0
-  Connect comes before [] after = after ≡ before
-  Connect comes before (came ∷ more) after = (next : D) × Connects (comes 0) before came next × Connect (λ n. comes (suc n)) next more after
+  -- those who connected, one after another
+  abbrev pub Connect : (ℕ → Peer) → D → List (Result Served StreamFault) → D → Type 0
+  Connect peers before [] after = after ≡ before
+  Connect peers before (came ∷ more) after = (next : D) × Connects (peers 0) before came next × Connect (λ n. peers (suc n)) next more after
 
 -- the word for the end of a stream
 abbrev pub end_word : End → List ℕ
@@ -50,12 +53,12 @@ abbrev pub lines_after : ℕ → List (Result Served StreamFault) → List ℕ
 lines_after before [] = []
 lines_after before (came ∷ more) = connection_line (before + 1) came ++ lines_after (before + 1) more
 
-module _ {D : Type 0} (step : D → MessageText → List ℕ → D → Type 0) (comes : ℕ → Found → Type 0) where
+module _ {D : Type 0} (step : D → MessageText → List ℕ → D → Type 0) (peers : ℕ → Peer) where
   -- this many connections were served, and the line of each was written
   pub record AllServed (before : D) (count : ℕ) (w0 w : Option (List ℕ)) (after : D) : Type 0 where
     pub came : List (Result Served StreamFault)
     pub counted : length came ≡ count
-    pub served : Connect step comes before came after
+    pub served : Connect step peers before came after
     pub wrote : Appends w0 w (lines_after 0 came)
 
   -- some of this many connections were served: the lines of all but the last were written whole, and a part of the last one's
@@ -63,7 +66,7 @@ module _ {D : Type 0} (step : D → MessageText → List ℕ → D → Type 0) (
     pub earlier : List (Result Served StreamFault)
     pub last : Result Served StreamFault
     pub few : length earlier < count
-    pub served : Connect step comes before (earlier ++ last ∷ []) after
+    pub served : Connect step peers before (earlier ++ last ∷ []) after
     pub kept : ℕ
     pub cut : kept < length (connection_line (length earlier + 1) last)
     pub wrote : Appends w0 w (lines_after 0 earlier ++ take kept (connection_line (length earlier + 1) last))

@@ -1,11 +1,11 @@
 //! Connections of a port, served at a desk one after another.
 ghost use Rattle.std.specs.Io.KnownBytes.{Appends};
-ghost use Rattle.std.specs.Prelude.{◌≡◌, ℕ, ◌+◌, ◌≤◌, ◌<◌, ◌-◌, ◌^◌, ◌++◌, length, take, Err, IfOk, IfErr, OnOk, OnErr};
+ghost use Rattle.std.specs.Prelude.{◌≡◌, ℕ, ◌+◌, ◌≤◌, ◌<◌, ◌-◌, ◌^◌, ◌++◌, length, take, OnOk, OnErr};
 ghost use Rattle.wire.specs.declared.TheConstants.{MAX_SHORT_BODY};
 ghost use Rattle.arrayvec.specs.ArrayVec.{array_vec_len};
-ghost use Rattle.web.specs.Connections.{IsStreamed, AllServed, SomeServed, end_word, told_of, connection_line};
-ghost use Rattle.web.specs.Serving.{AnswersFrom, end_text};
-ghost use Rattle.wire.specs.Served.{IsServed};
+ghost use Rattle.world.specs.WorldState.{IsPeer};
+ghost use Rattle.web.specs.Connections.{Connects, AllServed, SomeServed, end_word, told_of, connection_line};
+ghost use Rattle.web.specs.Serving.{AnswersFrom};
 
 use crate::service::serve_stream;
 use api::{push, push_labelled};
@@ -13,9 +13,7 @@ use arrayvec::ArrayVec;
 use desk::Desk;
 use sqlite::Alter;
 use std::alloc::Global;
-use std::io;
-use std::io::{Read, Write};
-use wire::{End, Served, ShortText, Sink, StreamFault, Watched, write_all};
+use wire::{End, Served, ShortText, Sink, StreamFault, write_all};
 use world::Door;
 
 /// The writer that lines go to failed: its count of failures grew by one.
@@ -86,35 +84,20 @@ fn write_line<O: Sink>(
     }
 }
 
-/// Serves what a reader gives, answers to a writer, and gives both back.
-fn serve_over<S: Alter, R: Read + Drop, W: Write + Drop>(
+/// Serves the stream of the next connection, or returns that it could not be accepted.
+fn serve_connection<S: Alter, D: Door>(
     alloc: Global,
     desk: &mut Desk<S>,
-    reader: R,
-    writer: W,
-) -> (Result<Served, StreamFault>, R, W)
-    ensures served { IsServed (AnswersFrom S.Store) end_text desk.old (R.remaining reader) (W.contents writer) result.0
-        desk.new (R.remaining result.1) (W.contents result.2) }
-{
-    let mut reader = Watched::new(reader);
-    let mut writer = Watched::new(writer);
-    let came = serve_stream(alloc, desk, &mut reader, &mut writer);
-    (came, reader.into_inner(), writer.into_inner())
-}
-
-/// Serves the stream of a connection by its two ends, or returns that it could not be accepted.
-fn serve_accepted<S: Alter, R: Read + Drop, W: Write + Drop>(
-    alloc: Global,
-    desk: &mut Desk<S>,
-    accepted: io::Result<(R, W)>,
+    door: &mut D,
 ) -> Result<Served, StreamFault>
-    ensures served { IfOk accepted (λ ends. IsStreamed (AnswersFrom S.Store) (R.remaining ends.0) desk.old result desk.new) }
-    ensures unaccepted { IfErr accepted (λ _. (result ≡ Err StreamFault.Read) × (desk.new ≡ desk.old)) }
+    ensures served { Connects (AnswersFrom S.Store) (D.peers door.old 0) desk.old result desk.new }
+    ensures next { (n : ℕ) → IsPeer (D.peers door.new n) (D.peers door.old (n + 1)) }
 {
-    let Ok((reader, writer)) = accepted else {
+    let Ok((mut reader, mut writer)) = door.accept() else {
         return Err(StreamFault::Read);
     };
-    let (came, _, _) = serve_over(alloc, desk, reader, writer);
+    let came = serve_stream(alloc, desk, &mut reader, &mut writer);
+    door.close(reader, writer);
     came
 }
 
@@ -130,13 +113,13 @@ pub fn serve_on<S: Alter, D: Door, O: Sink>(
     out: &mut O,
 ) -> Result<(), OutFault>
     requires { O.failures out.old < 2 ^ 64 - 1 }
-    ensures served { OnOk result (AllServed (AnswersFrom S.Store) (D.comes door.old) desk.old count (O.written out.old) (O.written out.new) desk.new) }
-    ensures broken { OnErr result (SomeServed (AnswersFrom S.Store) (D.comes door.old) desk.old count (O.written out.old) (O.written out.new) desk.new) }
+    ensures served { OnOk result (AllServed (AnswersFrom S.Store) (D.peers door.old) desk.old count (O.written out.old) (O.written out.new) desk.new) }
+    ensures broken { OnErr result (SomeServed (AnswersFrom S.Store) (D.peers door.old) desk.old count (O.written out.old) (O.written out.new) desk.new) }
     ensures count_ok { OnOk result (O.failures out.new ≡ O.failures out.old) }
     ensures count_err { OnErr result (O.failures out.new ≡ O.failures out.old + 1) }
 {
     for before in 0..count {
-        let came = serve_accepted(alloc, desk, door.accept());
+        let came = serve_connection(alloc, desk, door);
         write_line(out, before + 1, &came)?;
     }
     Ok(())

@@ -14,18 +14,35 @@ use Rattle.sqlite_wal.specs.Recovery.{Image}
 abbrev pub Found : Type 0
 Found = Option (Option (List ℕ))
 
--- a port: its connections in order, and whether it cannot be bound
+-- the two ends of a connection: what is left to read and what was written, where they are known, and how many calls of each failed
+pub record Ends : Type 0 where
+  pub left : Option (List ℕ)
+  pub written : Option (List ℕ)
+  pub read_failures : ℕ
+  pub write_failures : ℕ
+
+-- who connects: how the connection came, or that it could not be accepted, and how it was left
+pub record Peer : Type 1 where
+  pub comes : Option Ends → Type 0
+  pub leaves : Ends → Type 0
+
+-- what is known of one is known of the other
+pub record IsPeer (one other : Peer) : Type 0 where
+  pub comes : (ends : Option Ends) → one.comes ends → other.comes ends
+  pub leaves : (ends : Ends) → one.leaves ends → other.leaves ends
+
+-- a port: who connects to it, in order, and whether it cannot be bound
 pub record PortState : Type 1 where
-  pub comes : ℕ → Found → Type 0
+  pub peers : ℕ → Peer
   pub is_taken : Type 0
 
 -- a port of which nothing is known
 abbrev pub some_port : PortState
-some_port = record { comes = λ _ _. ⊤; is_taken = ⊤ }
+some_port = record { peers = λ _. record { comes = λ _. ⊤; leaves = λ _. ⊤ }; is_taken = ⊤ }
 
 -- what is known of one is known of the other
 pub record Within (one other : PortState) : Type 0 where
-  pub comes : (n : ℕ) (found : Found) → one.comes n found → other.comes n found
+  pub peers : (n : ℕ) → IsPeer (one.peers n) (other.peers n)
   pub is_taken : one.is_taken → other.is_taken
 
 -- the words of the command line, or why they cannot be read; what standard input holds; by name the files, the first contents of database

@@ -14,18 +14,23 @@ use std::fs::File;
 use std::net::{Ipv4Addr, SocketAddrV4, TcpListener, TcpStream};
 use std::rt::{HostRuntime, Stdin};
 use std::{env, io};
+use wire::Watched;
 
 impl Door for TcpListener {
-    type Reader = TcpStream;
+    type Reader = Watched<TcpStream>;
 
-    type Writer = TcpStream;
+    type Writer = Watched<TcpStream>;
 
-    ghost comes = { λ _ _ _. ⊤ };
+    ghost peers = { λ _ _. record { comes = λ _. ⊤; leaves = λ _. ⊤ } };
 
-    fn accept(&mut self) -> io::Result<(TcpStream, TcpStream)> {
+    ghost last = { λ _ _. ⊤ };
+
+    fn accept(&mut self) -> io::Result<(Watched<TcpStream>, Watched<TcpStream>)> {
         let (stream, _) = TcpListener::accept(self)?;
-        Ok((stream.try_clone()?, stream))
+        Ok((Watched::new(stream.try_clone()?), Watched::new(stream)))
     }
+
+    fn close(&mut self, _reader: Watched<TcpStream>, _writer: Watched<TcpStream>) {}
 }
 
 /// Returns a port of the loopback address: nobody else's machine reaches it.

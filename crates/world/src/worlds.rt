@@ -6,28 +6,41 @@ ghost use Rattle.sqlite.specs.Files.{IsBlankAs, IsOpened, file_state};
 ghost use Rattle.sqlite.specs.Start.{FindsIn};
 ghost use Rattle.sqlite.specs.State.{HasCleanDisk};
 ghost use Rattle.sqlite_store.specs.FileStore.{view};
-ghost use Rattle.world.specs.WorldState.{Found, PortState, Within, WorldState};
+ghost use Rattle.world.specs.WorldState.{Ends, IsPeer, Peer, PortState, Within, WorldState};
 
 use sqlite::{Connection, Error, FileStore};
 use sqlite_disk::Disk;
 use std::io;
-use std::io::{Read, Write};
+use std::io::Read;
+use wire::{Sink, Source};
 
 /// A port that is bound.
 pub trait Door: Drop {
     /// What is read of a connection.
-    type Reader: Read + Drop;
+    type Reader: Source + Drop;
 
     /// What is written to it.
-    type Writer: Write + Drop;
+    type Writer: Sink + Drop;
 
-    // The connections that are still to come, in order.
-    ghost comes: { Self → ℕ → Found → Type 0 };
+    // Who is still to connect, in order.
+    ghost peers: { Self → ℕ → Peer };
+
+    // How the connection that was accepted last is left.
+    ghost last: { Self → Ends → Type 0 };
 
     /// Accepts the next connection, and returns its two ends.
     fn accept(&mut self) -> io::Result<(Self::Reader, Self::Writer)>
-        ensures came { MatchResult result (λ ends. comes self.old 0 (Some (Self.Reader.remaining ends.0))) (λ _. comes self.old 0 None) }
-        ensures next { (n : ℕ) (found : Found) → comes self.new n found → comes self.old (n + 1) found };
+        ensures came { MatchResult result
+            (λ ends. (peers self.old 0).comes (Some (record { left = Self.Reader.left ends.0; written = Self.Writer.written ends.1; read_failures = 0; write_failures = 0 })))
+            (λ _. (peers self.old 0).comes None) }
+        ensures fresh { IfOk result (λ ends. (Self.Reader.ended ends.0 ≡ false) × (Self.Reader.failures ends.0 ≡ 0) × (Self.Writer.failures ends.1 ≡ 0)) }
+        ensures next { (n : ℕ) → IsPeer (peers self.new n) (peers self.old (n + 1)) }
+        ensures last { (ends : Ends) → last self.new ends → (peers self.old 0).leaves ends };
+
+    /// Closes the connection that was accepted last, whose two ends these are.
+    fn close(&mut self, reader: Self::Reader, writer: Self::Writer)
+        ensures left { last self.old (record { left = Self.Reader.left reader; written = Self.Writer.written writer; read_failures = Self.Reader.failures reader; write_failures = Self.Writer.failures writer }) }
+        ensures stays { (n : ℕ) → IsPeer (peers self.new n) (peers self.old n) };
 }
 
 /// The ports, one of which can be bound.
@@ -40,7 +53,7 @@ pub trait Ports: Drop {
 
     /// Binds this port, which nobody else's machine reaches.
     fn bind(self, port: u16) -> io::Result<Self::Door>
-        ensures bound { IfOk result (λ door. (n : ℕ) (found : Found) → Self.Door.comes door n found → (state self port).comes n found) }
+        ensures bound { IfOk result (λ door. (n : ℕ) → IsPeer (Self.Door.peers door n) ((state self port).peers n)) }
         ensures taken { IfErr result (λ _. (state self port).is_taken) };
 }
 

@@ -11,13 +11,15 @@ returns-in-Ok g c =
     record {
       first = c.in-Ok.connection;
       last = did.0;
-      found = c.in-Ok.ensures.found;
-      opened = c.in-Ok.ensures.opened;
-      plain = c.in-Ok.ensures.plain;
-      of_file = of_file _ c.in-Ok.connection (file_state did.0) c.in-Ok.ensures.found c.in-Ok.ensures.opened;
+      leaves = record {
+        found = c.in-Ok.ensures.found;
+        opened = c.in-Ok.ensures.opened;
+        plain = c.in-Ok.ensures.plain;
+        of_file = of_file _ c.in-Ok.connection (file_state did.0) c.in-Ok.ensures.found c.in-Ok.ensures.opened;
+        left = left_within over_files lent ports c.in-Ok.ensures.ports c.args.task _ c.in-Ok.connection did.0 did.2;
+        closing = did.3;
+      };
       printed = prints_more _ _ (λ o is. tells_within over_files lent ports c.in-Ok.ensures.ports c.args.database.now c.args.task c.in-Ok.connection did.0 o is) _ _ _ did.1;
-      left = left_within over_files lent ports c.in-Ok.ensures.ports c.args.task _ c.in-Ok.connection did.0 did.2;
-      closing = did.3;
     }
 
 pub returns-in-Err : goal.returns-in-Err

@@ -1,18 +1,9 @@
-use Rattle.std.proofs.Common.{List, String, arith, map, refl, rules, string_bytes, subst}
+use Rattle.std.proofs.Common.{arith, refl, rules}
 use Rattle.std.proofs.lemmas.Grind.{common_steps}
-use Rattle.std.specs.declared.alloc.Global.{Global}
-use Rattle.cli.specs.Outcomes.{ComesTo}
-use Rattle.cli.proofs.Writers.{prints_more}
 use Rattle.cli.proofs.program.begin.Goals as goal
 
 pub returns-then-len-gt1-clause-line : goal.returns-then-len-gt1-clause-line
-returns-then-len-gt1-clause-line g c =
-    rw c.in-Ok.is (λ _. record {
-      printed = prints_more (ComesTo (map string_bytes c.deref.result.now)) (ComesTo (map string_bytes c.in-Ok.words.items))
-          (λ o is. subst (λ (ws : List (String Global)). ComesTo (map string_bytes ws) o) c.deref.ensures.value is) _ _ _ c.run_command.ensures.printed;
-      file = rw (← c.deref.ensures.value) c.run_command.ensures.file;
-      unread = refl;
-    })
+returns-then-len-gt1-clause-line g c = rw c.in-Ok.is (λ _. (refl, rw (← c.deref.ensures.value) c.run_command.ensures.file))
 
 pub returns-in-Ok-clause-stream : goal.returns-in-Ok-clause-stream
 returns-in-Ok-clause-stream g c = rw c.in-Ok.is (λ few. record { stream = first_of (search rules, grind (arith, common_steps)); silent = search rules; no_file = refl })

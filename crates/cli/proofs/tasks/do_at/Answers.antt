@@ -2,7 +2,7 @@ use Rattle.std.proofs.Common.{◌≡◌, ◌∙◌, ap, arith, inl, inr, rules, 
 use Rattle.wire.specs.declared.outcome.Served.{Served}
 use Rattle.wire.specs.declared.outcome.StreamFault.{StreamFault}
 use Rattle.wire.specs.Run.{MessageText}
-use Rattle.world.specs.WorldState.{Found, PortState}
+use Rattle.world.specs.WorldState.{IsPeer, Peer, PortState}
 use Rattle.web.specs.Connections.{Connect}
 use Rattle.web.specs.Serving.{AnswersFrom}
 use Rattle.web.proofs.OneMessage.{gets_at}
@@ -32,24 +32,24 @@ returns-in-Ok-clause-taken g c = rw c.in-Ask.is (c.ask.result, c.ask.ensures.ste
 pub returns-in-Ask-clause-taken : goal.returns-in-Ask-clause-taken
 returns-in-Ask-clause-taken g c = rw c.in-Ask.is (c.ask.result, c.ask.ensures.step, λ clean. omega (arith, clean, c.ask.ensures.saved.crash.clean))
 
-module _ {A E D : Type 0} (step : D → MessageText → List ℕ → D → Type 0) (at : PortState) (comes : A → ℕ → Found → Type 0) (before after : D) where
+module _ {A E D : Type 0} (step : D → MessageText → List ℕ → D → Type 0) (at : PortState) (peers : A → ℕ → Peer) (before after : D) where
   -- whether the port was bound or not
-  serves : (bound : Result A E) (port count : ℕ) (o : Outcome) → IfOk bound (λ a. (n : ℕ) (found : Found) → comes a n found → at.comes n found) → IfErr bound (λ _. at.is_taken)
-      → MatchResult bound (λ a. IsServed step (comes a) port count before after o) (λ _. IsUnbound port before after o) → ServesAt step at port count before after o
-  serves (Ok a) port count o of taken is = inr (record { came = is.came; counted = is.counted; served = came_within step (comes a) at.comes of before after is.came is.served; is = is.is })
+  serves : (bound : Result A E) (port count : ℕ) (o : Outcome) → IfOk bound (λ a. (n : ℕ) → IsPeer (peers a n) (at.peers n)) → IfErr bound (λ _. at.is_taken)
+      → MatchResult bound (λ a. IsServed step (peers a) port count before after o) (λ _. IsUnbound port before after o) → ServesAt step at port count before after o
+  serves (Ok a) port count o of taken is = inr (record { came = is.came; counted = is.counted; served = came_within step (peers a) at.peers of before after is.came is.served; is = is.is })
   serves (Err e) port count o of taken is = inl (taken, is)
 
-  takes : (bound : Result A E) → IfOk bound (λ a. (n : ℕ) (found : Found) → comes a n found → at.comes n found) → IfOk bound (λ a. (came : List (Result Served StreamFault)) × Connect step (comes a) before came after)
-      → IfErr bound (λ _. after ≡ before) → (came : List (Result Served StreamFault)) × Connect step at.comes before came after
-  takes (Ok a) of served none = (served.0, came_within step (comes a) at.comes of before after served.0 served.1)
+  takes : (bound : Result A E) → IfOk bound (λ a. (n : ℕ) → IsPeer (peers a n) (at.peers n)) → IfOk bound (λ a. (came : List (Result Served StreamFault)) × Connect step (peers a) before came after)
+      → IfErr bound (λ _. after ≡ before) → (came : List (Result Served StreamFault)) × Connect step at.peers before came after
+  takes (Ok a) of served none = (served.0, came_within step (peers a) at.peers of before after served.0 served.1)
   takes (Err e) of served none = ([], none)
 
 pub returns-clause-printed : goal.returns-clause-printed
 returns-clause-printed g c =
     rw c.in-Serve.is
-    (prints_more _ _ (λ o is. serves (AnswersFrom g.S.Store) (g.P.Ports.state c.args.ports c.in-Serve.serving.port) g.P.Door.Door.comes _ _ c.bind-bound.result _ _ o c.bind-bound.ensures.bound c.bind-bound.ensures.taken is) _ _ _ c.serve_bound.ensures.printed)
+    (prints_more _ _ (λ o is. serves (AnswersFrom g.S.Store) (g.P.Ports.state c.args.ports c.in-Serve.serving.port) g.P.Door.Door.peers _ _ c.bind-bound.result _ _ o c.bind-bound.ensures.bound c.bind-bound.ensures.taken is) _ _ _ c.serve_bound.ensures.printed)
 
 pub returns-clause-taken : goal.returns-clause-taken
 returns-clause-taken g c =
     rw c.in-Serve.is
-    (takes (AnswersFrom g.S.Store) (g.P.Ports.state c.args.ports c.in-Serve.serving.port) g.P.Door.Door.comes _ _ c.bind-bound.result c.bind-bound.ensures.bound c.serve_bound.ensures.served c.serve_bound.ensures.unbound)
+    (takes (AnswersFrom g.S.Store) (g.P.Ports.state c.args.ports c.in-Serve.serving.port) g.P.Door.Door.peers _ _ c.bind-bound.result c.bind-bound.ensures.bound c.serve_bound.ensures.served c.serve_bound.ensures.unbound)

@@ -7,12 +7,12 @@ use Rattle.cli.proofs.tasks.serve_bound.Goals as goal
 pub returns-in-Ok-clause-printed : goal.returns-in-Ok-clause-printed
 returns-in-Ok-clause-printed g c =
     rw (← c.outputs.view_is)
-    (ok_printed (λ door o. IsServed (AnswersFrom g.S.Store) (g.D.Door.comes door) c.args.serving.port c.args.serving.count _ _ o) (λ _ o. IsUnbound c.args.serving.port _ _ o) c.args.bound c.in-Ok.door c.in-Ok.is _ _ _
+    (ok_printed (λ door o. IsServed (AnswersFrom g.S.Store) (g.D.Door.peers door) c.args.serving.port c.args.serving.count _ _ o) (λ _ o. IsUnbound c.args.serving.port _ _ o) c.args.bound c.in-Ok.door c.in-Ok.is _ _ _
     (served_printed (AnswersFrom g.S.Store) _ _ _ c.args.serving.port c.args.serving.count _ _ _ _ _ _ _ c.serve_at.ensures.printed))
 
 pub returns-in-Err-clause-printed : goal.returns-in-Err-clause-printed
 returns-in-Err-clause-printed g c =
-    err_printed (λ door o. IsServed (AnswersFrom g.S.Store) (g.D.Door.comes door) c.args.serving.port c.args.serving.count _ _ o) (λ _ o. IsUnbound c.args.serving.port _ _ o) c.args.bound _ c.in-Err.is _ _ _
+    err_printed (λ door o. IsServed (AnswersFrom g.S.Store) (g.D.Door.peers door) c.args.serving.port c.args.serving.count _ _ o) (λ _ o. IsUnbound c.args.serving.port _ _ o) c.args.bound _ c.in-Err.is _ _ _
     (prints_more _ (λ o. IsUnbound c.args.serving.port c.args.desk.now c.args.desk.now o) (λ o is. (refl, is ∙ ap (prints_err 1) (search rules))) _ _ _ c.print_err.ensures)
 
 pub returns-in-Ok-clause-served : goal.returns-in-Ok-clause-served
