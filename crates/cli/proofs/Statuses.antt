@@ -1,9 +1,8 @@
 -- The status of whatever words may come to is at most 2.
-use Rattle.std.proofs.Common.{◌≡◌, ◌≤◌, inl, inr, string_bytes, ℕ, List, Result, Ok, Err, String, arith, subst, sym}
+use Rattle.std.proofs.Common.{◌≡◌, ◌≤◌, inl, inr, string_bytes, ℕ, List, Result, Ok, Err, String, arith, subst, sym, rules}
 use Rattle.std.specs.Prelude.{⊤}
 use Rattle.std.specs.declared.alloc.Global.{Global}
 use Rattle.rolls.specs.declared.refusal.Refusal.{Refusal}
-use Rattle.rolls.specs.declared.request.Plain.TheVariants as plain
 use Rattle.rolls.specs.declared.request.Reply.{Reply}
 use Rattle.rolls.specs.declared.request.Request.TheVariants as request
 use Rattle.round_files.specs.declared.rounds.Trouble.{Trouble}
@@ -64,13 +63,9 @@ comes (line.Import database kind id file) o (inl not) = unread o not
 comes (line.Import database kind id file) o (inr (bytes, inl large)) = low o _ large.1 (omega arith)
 comes (line.Import database kind id file) o (inr (bytes, inr (short, inl memory))) = low o _ memory (omega arith)
 comes (line.Import database kind id file) o (inr (bytes, inr (short, inr did))) = does_at _ (task.Ask (request.Import (string_bytes id) kind bytes)) o did
-comes (line.Serve database port count) o did = does_at _ (task.Serve (record { port = port; count = count })) o did
-comes (line.OpenRound database aim) o did = does_at _ (task.Ask (request.Plain (plain.OpenRound aim))) o did
-comes (line.ReopenRound database) o did = does_at _ (task.Ask (request.Plain plain.ReopenRound)) o did
-comes (line.CloseRound database) o did = does_at _ (task.Ask request.Close) o did
-comes (line.Report database kind round) o did = does_at _ (task.Ask (request.Report kind round)) o did
 comes (line.Solve file) o did = on_file _ o did
 comes (line.Check file) o did = on_file _ o did
+comes _ o did = search (does_at, rules)
 
 comes_of : (command : Result Line LineFault) (o : Outcome) → MayComeOf command o → IsLow o
 comes_of (Ok l) o did = comes l o did

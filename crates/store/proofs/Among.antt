@@ -1,6 +1,7 @@
 -- The tables of the editions: which is among which, and that none comes twice.
 use Rattle.std.proofs.Common.{◌≡◌, ◌≢◌, ◌⊎◌, inl, inr, ℕ, zero, suc, ◌<◌, List, [], ◌∷◌, ◌++◌, length, get_or, take, Bool, true, not, refl, sym, ap, ◌∙◌, arith, true≢false}
 use Rattle.std.specs.Prelude.{◌&&◌, ◌||◌, false}
+use Rattle.std.specs.Cmp.{first_so}
 use Rattle.std.specs.List.{list_any, list_all}
 use Rattle.std.proofs.lemmas.Bool.{and_parts, or_parts, not-true}
 use Rattle.std.proofs.lemmas.List.{get_or_default}
@@ -8,7 +9,8 @@ use Rattle.sqlite_rules.specs.Lists.{Has}
 use Rattle.sqlite_rules.proofs.ListLemmas.{has_at, some_from}
 use Rattle.row_model.specs.declared.table.Table.{Table}
 use Rattle.row_model.specs.declared.table.Table.TheVariants.{Choice, Edition, Placement, RoundAim}
-use Rattle.row_model.specs.Rows.{RowOf, of_table, same_table}
+use Rattle.row_model.specs.Rows.{IsPart, IsRow, PartOf, RowOf, are_of, kinds_of, of_table, same_table, shared_kinds}
+use Rattle.row_model.specs.Changes.{table_of}
 use Rattle.row_model.proofs.Tables.{same_table_is, same_table_self}
 use Rattle.tables.proofs.Runs.{decide_table}
 use Rattle.editions.specs.declared.Edition.{Edition as AnEdition}
@@ -80,6 +82,21 @@ old_among e table h = tested_among (rolls_of e) table (all_tested (λ old. list_
 pub apart_edition : (table : Table) → IsRollTable table → table ≢ Edition
 unfolding IsAmong
 apart_edition table h e = not_among Edition rolls refl table h e
+
+-- each table but that of the edition is one of the rolls
+in_rolls : (table : Table) → same_table table Edition ≡ false → IsRollTable table
+unfolding IsAmong
+in_rolls table h = tested_among rolls table (by table h)
+  where
+    by : (table : Table) → same_table table Edition ≡ false → list_any (same_table table) rolls ≡ true
+    by Edition h = absurd (cc)
+    by _ h = refl
+
+pub row_in_rolls : (r : RowOf) → IsRow r → IsRollTable r.table
+row_in_rolls r h = in_rolls r.table (not-true _ (first_so (not (same_table r.table Edition)) (are_of (kinds_of r.table) r.cells) h))
+
+pub part_in_rolls : (p : PartOf) → IsPart p → IsRollTable (table_of p)
+part_in_rolls p h = in_rolls (table_of p) (not-true _ (first_so (not (same_table (table_of p) Edition)) (are_of (shared_kinds p.group) p.cells) h))
 
 -- a table that is among others stands in their list
 pub stands_among : (tables : List Table) (table : Table) → IsAmong tables table → Has tables table

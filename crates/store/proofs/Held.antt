@@ -9,14 +9,13 @@ use Rattle.row_model.specs.declared.table.Table.{Table}
 use Rattle.row_model.specs.declared.table.Table.TheVariants.{Edition}
 use Rattle.row_model.specs.declared.row.Change.{Change}
 use Rattle.row_model.specs.declared.row.Change.TheVariants.{Add, Put, Remove}
-use Rattle.row_model.specs.Rows.{AllRows, Cells, IsPart, IsRow, PartOf, RowOf, begins, key_in, same_table, shared_by}
+use Rattle.row_model.specs.Rows.{AllRows, Cells, IsPart, IsRow, PartOf, RowOf, key_in, same_table, shared_by}
 use Rattle.row_model.specs.Changes.{after_change, changed, is_in_part, makes, table_of}
 use Rattle.row_model.proofs.Tables.{same_table_self}
 use Rattle.change_laws.proofs.Changes.{by_table, change_elsewhere, change_here}
-use Rattle.tables.specs.Table as sql
 use Rattle.tables.specs.Table.{table_at}
 use Rattle.tables.specs.Keyed.{Stands}
-use Rattle.tables.specs.Writes.{Enters, Puts, Removes, WritesOnly, begins_with, goes_on}
+use Rattle.tables.specs.Writes.{Enters, Leaves, Puts, Removes, WritesOnly, begins_with, goes_on}
 use Rattle.tables.proofs.Runs.{stands_apart}
 use Rattle.tables.specs.declared.statements.Entering.{Entering}
 use Rattle.tables.specs.declared.statements.Entering.TheVariants.{InPlace, New}
@@ -24,9 +23,9 @@ use Rattle.store.specs.Editions.{latest, number_of}
 use Rattle.store.specs.Rows.{IsRollTable, values}
 use Rattle.store.specs.Saving.{Spares}
 use Rattle.store.specs.Tables.{TablesHold, numbered}
-use Rattle.store.specs.Inside.Saving.{AppliesOne, Leaves, entry}
+use Rattle.store.specs.Inside.Saving.{AppliesOne, entry}
 use Rattle.store.proofs.Begins.{begins_same}
-use Rattle.store.proofs.SqlKinds.{key_so, part_in_rolls, row_in_rolls}
+use Rattle.store.proofs.Among.{part_in_rolls, row_in_rolls}
 
 module _ (c : Change) (old new : Database) (rows : AllRows) (t : TablesHold old rows) (among : IsRollTable (changed c)) (only : WritesOnly (t.places (changed c)).tree old new) where
   abbrev q : Table
@@ -66,22 +65,18 @@ module _ (p : Cells → Bool) (found : Values → Bool) (same : (row : Cells) �
       by true = refl
       by false = refl
 
--- a row's key
-key_found : (r : RowOf) (row : Cells) → begins_with (sql.key_in r.table (values r.cells)) (values row) ≡ begins (key_in r.table r.cells) row
-key_found r row = ap (λ key. begins_with key (values row)) (key_so r.table r.cells) ∙ begins_same (key_in r.table r.cells) row
-
 -- a part
 part_found : (p : PartOf) (row : Cells) → goes_on (let s = shared_by p.group in s.1) (values p.cells) (values row) ≡ is_in_part p row
 part_found p row = ap (begins_with (values p.cells)) (drop-map _ (let s = shared_by p.group in s.1) row) ∙ begins_same p.cells (drop (let s = shared_by p.group in s.1) row)
 
 -- a row that was put in its table, or added to it
-pub hold_enter : (way : Entering) (r : RowOf) (old new : Database) → IsRow r → Enters way (table_at r.table) (sql.key_in r.table (values r.cells)) (values r.cells) old new → AppliesOne (entry way r) old new
+pub hold_enter : (way : Entering) (r : RowOf) (old new : Database) → IsRow r → Enters way (table_at r.table) (values (key_in r.table r.cells)) (values r.cells) old new → AppliesOne (entry way r) old new
 unfolding AppliesOne Puts
 hold_enter InPlace r old new is puts need rows t =
     let among = row_in_rolls r is in
     let place = t.places r.table in
     let done = puts place (map values (rows r.table)) (need among place (t.rolls r.table among).listed) (t.rolls r.table among) in
-    let made = put_so _ _ (key_found r) r.cells (rows r.table) in
+    let made = put_so _ _ (begins_same (key_in r.table r.cells)) r.cells (rows r.table) in
     (held (Put r) old new rows t among done.1 (subst (λ held. Stands (table_at r.table) place held new) made done.0), spared (Put r) old new rows t among done.1)
 hold_enter New r old new is adds need rows t =
     let among = row_in_rolls r is in

@@ -1,6 +1,5 @@
 mod Among
 mod Begins
-mod SqlKinds
 mod Permutation
 pub mod Standing
 mod CellByCell

@@ -20,7 +20,7 @@ use Rattle.tables.specs.Steps.{HasStepped, MayRecoverTo}
 use Rattle.tables.specs.Inside.Steps.{Stays}
 use Rattle.tables.proofs.Runs.{listed_once, stands_apart, stands_beside, stays_none, stays_then, stays_stepped, decide_table}
 use Rattle.store.specs.Editions.{latest, number_of}
-use Rattle.store.specs.Rows.{stored_tables, rolls, values}
+use Rattle.store.specs.Rows.{all_tables, rolls, values}
 use Rattle.store.specs.Tables.{AreRuled, AreRuledAmong, Brings, LeavesTables, MakesTables, StandsFor, HasNone, Opens, numbered}
 use Rattle.store.specs.Inside.Tables.{Empties}
 use Rattle.store.proofs.Among.{apart_edition, stands_among}
@@ -96,9 +96,9 @@ pub made_all : (i : ℕ) (all : List Table) (a b : Seen) → length all ≤ i �
 made_all i all a b end = subst (λ rs. Stays (MakesTables rs) a b) (take_all i all end)
 
 -- the tables, once that of the edition has its row
-empty_stands : (row : List Value) → row ∷ [] ≡ numbered (number_of latest) → (a b c : Database) → MakesTables stored_tables a b → Adds (table_at Edition) row b c → StandsFor c empty
+empty_stands : (row : List Value) → row ∷ [] ≡ numbered (number_of latest) → (a b c : Database) → MakesTables all_tables a b → Adds (table_at Edition) row b c → StandsFor c empty
 empty_stands row is a b c m n =
-    let first : Has stored_tables Edition = inl refl in
+    let first : Has all_tables Edition = inl refl in
     let done = n (m.places Edition) [] (m.stand Edition first) in
     record {
       edition = m.places Edition;
@@ -113,10 +113,10 @@ empty_stands row is a b c m n =
     }
 
 -- and are as they are made here
-ruled_so : (row : List Value) (a b c : Database) → MakesTables stored_tables a b → Adds (table_at Edition) row b c → AreRuled c.schema
+ruled_so : (row : List Value) (a b c : Database) → MakesTables all_tables a b → Adds (table_at Edition) row b c → AreRuled c.schema
 unfolding AreRuledAmong
 ruled_so row a b c m n table among place listed =
-    let first : Has stored_tables Edition = inl refl in
+    let first : Has all_tables Edition = inl refl in
     let done = n (m.places Edition) [] (m.stand Edition first) in
     let here = subst (λ (s : Schema). Lists s (table_at table (m.places table))) (sym done.1.schema) (m.stand table among).listed in
     let same : table_at table place ≡ table_at table (m.places table) = listed_once c.schema (table_at table) place (m.places table) refl listed here in
@@ -124,10 +124,10 @@ ruled_so row a b c m n table among place listed =
     same ∙ (λ i. table_at table (record { tree = tree i; rules = m.ruled table among i }))
 
 -- each other table stays
-others_stay : (row : List Value) (a b c : Database) → MakesTables stored_tables a b → Adds (table_at Edition) row b c → LeavesTables a c
+others_stay : (row : List Value) (a b c : Database) → MakesTables all_tables a b → Adds (table_at Edition) row b c → LeavesTables a c
 unfolding LeavesTables
 others_stay row a b c m n t listed other =
-    let first : Has stored_tables Edition = inl refl in
+    let first : Has all_tables Edition = inl refl in
     let done = n (m.places Edition) [] (m.stand Edition first) in
     let was = m.others t listed in (
       subst (λ (s : Schema). Lists s t) (sym done.1.schema) was.0,
@@ -135,9 +135,9 @@ others_stay row a b c m n t listed other =
     )
 
 -- the tables were made one after the other, and then the edition was written
-pub created : (row : List Value) → row ∷ [] ≡ numbered (number_of latest) → (a b c : Seen) → Stays (MakesTables stored_tables) a b → HasStepped (Adds (table_at Edition) row) b c → HasStepped Empties a c
+pub created : (row : List Value) → row ∷ [] ≡ numbered (number_of latest) → (a b c : Seen) → Stays (MakesTables all_tables) a b → HasStepped (Adds (table_at Edition) row) b c → HasStepped Empties a c
 unfolding Empties
-created row is a b c m n = stays_stepped (MakesTables stored_tables) (Adds (table_at Edition) row) Empties a b c (λ p q. (empty_stands row is a.now b.now c.now p q, ruled_so row a.now b.now c.now p q, others_stay row a.now b.now c.now p q)) m n
+created row is a b c m n = stays_stepped (MakesTables all_tables) (Adds (table_at Edition) row) Empties a b c (λ p q. (empty_stands row is a.now b.now c.now p q, ruled_so row a.now b.now c.now p q, others_stay row a.now b.now c.now p q)) m n
 
 -- the tables were made where there were none
 pub opens_new : (old new : Database) (office : State) → HasNone old.schema → office ≡ empty → Empties old new → Opens old new office

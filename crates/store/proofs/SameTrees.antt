@@ -21,7 +21,7 @@ use Rattle.rolls.specs.State.{State}
 use Rattle.editions.specs.declared.Edition.{Edition as AnEdition}
 use Rattle.editions.specs.declared.Edition.TheVariants.{First, Second, Third}
 use Rattle.editions.specs.Editions.{HaveNoLater, RowsMigrate, migrated_rows, rows_in_edition}
-use Rattle.store.specs.Rows.{stored_tables, values}
+use Rattle.store.specs.Rows.{all_tables, values}
 use Rattle.store.specs.Editions.{beyond, latest, number_of, rolls_of}
 use Rattle.store.specs.Tables.{HasNoneOf, HoldIn, Opens, StandsIn, TablesOf, numbered}
 use Rattle.store.proofs.Among.{among_or_not, is_among}
@@ -113,7 +113,7 @@ pub opens_again : RowsGiveOffice → RowsMigrate → (e : AnEdition) (db found o
     → again ≡ office
 opens_again one rows_migrate e db found opened office again sound here trees stands fit fits (inl made) =
     let held = holds_so (rolls_of e) (number_of e) db found (rows_in_edition e office) sound here trees stands.holds in
-    absurd (listed_there Edition held.edition (numbered (number_of e)) found stored_tables held.editions (inl refl) made.0)
+    absurd (listed_there Edition held.edition (numbered (number_of e)) found all_tables held.editions (inl refl) made.0)
 opens_again one rows_migrate e db found opened office again sound here trees stands fit fits (inr (inl is)) =
     same_office one rows_migrate e latest db found office again sound here trees stands (in_latest is.1) fit fits
 opens_again one rows_migrate e db found opened office again sound here trees stands fit fits (inr (inr migrated)) =

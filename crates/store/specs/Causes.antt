@@ -14,7 +14,7 @@ use Rattle.sqlite.specs.Order.{Row as Values}
 use Rattle.editions.specs.declared.Edition.{Edition as AnEdition}
 use Rattle.store.specs.Editions.{IsEarlier, beyond, latest, number_of, migrated, rolls_of}
 use Rattle.store.specs.Reading.{AreAllListed}
-use Rattle.store.specs.Rows.{removal, stored_tables, values}
+use Rattle.store.specs.Rows.{removal, all_tables, values}
 use Rattle.store.specs.Saving.{AreActedOnAmong}
 use Rattle.store.specs.Tables.{HasNone, StandsIn}
 use Rattle.rolls.specs.State.{State}
@@ -77,12 +77,12 @@ IsHinderedMaking = IsHinderedAfter (λ table. Went (sql_of table).create []) (λ
 -- the number of the edition is refused, once the tables are made
 pub record IsHinderedNumbering (limit : Option ℕ) (db : Database) : Type 0 where
   pub between : Database
-  pub ran : RanTables stored_tables limit db between
+  pub ran : RanTables all_tables limit db between
   pub hindered : IsHindered (sql_of Edition).insert latest_number limit between
 
 -- the tables cannot be made
 abbrev pub IsHinderedCreating : Option ℕ → Database → Type 0
-IsHinderedCreating limit db = IsHinderedMaking stored_tables limit db ⊎ IsHinderedNumbering limit db
+IsHinderedCreating limit db = IsHinderedMaking all_tables limit db ⊎ IsHinderedNumbering limit db
 
 -- a table that an edition lacks is refused, or, once they are made, a change
 abbrev pub IsHinderedToAddTables : AnEdition → List Change → Option ℕ → Database → Type 0

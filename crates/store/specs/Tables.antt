@@ -21,7 +21,7 @@ use Rattle.editions.specs.declared.Edition.{Edition}
 use Rattle.editions.specs.Editions.{Allows, rows_in_edition}
 use Rattle.rolls.specs.Fit.{IsFit}
 use Rattle.store.specs.Editions.{IsEarlier, beyond, latest, number_of, rolls_of}
-use Rattle.store.specs.Rows.{IsAmong, stored_tables, values}
+use Rattle.store.specs.Rows.{IsAmong, all_tables, values}
 
 -- the one row of `edition`, with this number
 abbrev pub numbered : ℕ → List Values
@@ -56,7 +56,7 @@ HasNoneOf tables schema = (table : Table) → Has tables table → is_there sche
 
 -- none of the tables of the store is there
 abbrev pub HasNone : Schema → Type 0
-HasNone = HasNoneOf stored_tables
+HasNone = HasNoneOf all_tables
 
 -- these tables are as they are made here: STRICT, with their CHECK rules, and each reference names its column
 unfoldable pub AreRuledAmong : List Table → Schema → Type 0
@@ -64,7 +64,7 @@ AreRuledAmong tables schema = (table : Table) → Has tables table → (place : 
 
 -- so are all tables of the store
 abbrev pub AreRuled : Schema → Type 0
-AreRuled = AreRuledAmong stored_tables
+AreRuled = AreRuledAmong all_tables
 
 -- The tables stand for an office in an edition: they hold the rows that it has there, and nothing else; the edition allows it; and no
 -- table has the name of one of a later edition.
@@ -75,7 +75,7 @@ pub record StandsIn (e : Edition) (db : Database) (office : State) : Type 0 wher
 
 -- none of the store's tables is listed in the tree of this one
 abbrev pub IsOther : Schema → AnyTable → Type 0
-IsOther schema t = (table : Table) → Has stored_tables table → (place : Place) → Lists schema (table_at table place) → t.tree ≢ place.tree
+IsOther schema t = (table : Table) → Has all_tables table → (place : Place) → Lists schema (table_at table place) → t.tree ≢ place.tree
 
 -- each other table is listed as before, with its rows
 unfoldable pub LeavesTables : Database → Database → Type 0

@@ -13,7 +13,8 @@ ghost use Rattle.store.specs.Tables.{HasNone, HasNoneOf, MakesTables};
 use crate::all_tables::TABLES;
 use crate::edition::{LATEST, number_of};
 use crate::fault::StoreFault;
-use sqlite::{Alter, Connection, Transaction, params};
+use row_model::Cell;
+use sqlite::{Alter, Connection, Transaction};
 use sqlite_schema::schema::Schema;
 use tables::Table;
 use tables::fault::TableFault;
@@ -65,7 +66,12 @@ fn make_tables<S: Alter>(tx: &mut Transaction<'_, S>) -> Result<(), TableFault>
 {
     make_each(tx, &TABLES)?;
     // In the transaction that makes the tables: so no crash leaves tables without their number.
-    enter(tx, New, Table::Edition, params![1, number_of(LATEST)])
+    enter(
+        tx,
+        New,
+        Table::Edition,
+        &[Cell::Number(1), Cell::Number(number_of(LATEST))],
+    )
 }
 
 /// Makes the tables in one transaction.

@@ -17,7 +17,8 @@ use crate::quiet::are_left_among;
 use crate::saving::apply_all;
 use editions::Edition;
 use rolls::Change;
-use sqlite::{Alter, Connection, Transaction, params};
+use row_model::Cell;
+use sqlite::{Alter, Connection, Transaction};
 use tables::Table;
 use tables::fault::TableFault;
 use tables::statements::Entering::InPlace;
@@ -50,7 +51,12 @@ fn lift_edition<S: Alter>(
     ensures starved { IsStarvedInside result (state S.Store tx.old.conn.now) (state S.Store tx.new.conn.now) }
     ensures cause { IsCausedInside (IsHinderedToMigrate edition changes.now) result (state S.Store tx.old.conn.now) (state S.Store tx.new.conn.now) }
 {
-    enter(tx, InPlace, Table::Edition, params![1, number_of(LATEST)])?;
+    enter(
+        tx,
+        InPlace,
+        Table::Edition,
+        &[Cell::Number(1), Cell::Number(number_of(LATEST))],
+    )?;
     add_tables(tx, edition, changes)
 }
 

@@ -5,7 +5,6 @@ use Rattle.std.proofs.lemmas.List.Sorted.{IsPermutation-map}
 use Rattle.sqlite_keyed.proofs.ListLemmas.{IsPermutation-filter, map-map}
 use Rattle.sqlite.specs.Schema.{Schema}
 use Rattle.sqlite.specs.Table.{Table}
-use Rattle.sqlite.specs.Kind.{Kind}
 use Rattle.sqlite.specs.Order.{Row}
 use Rattle.sqlite_ast.specs.declared.Statement.TheVariants as written
 use Rattle.sqlite_ast.specs.declared.Expr.{Expr}
@@ -24,7 +23,9 @@ use Rattle.sqlite.specs.Rowids.TheVariants.{Given}
 use Rattle.sqlite_rules.specs.Calls.{ids_of}
 use Rattle.sqlite_rules.specs.Action.{works}
 use Rattle.sqlite.proofs.Callers.{one_step}
-use Rattle.tables.specs.Table.{Place, TableShape, cells, are_of, made_at}
+use Rattle.row_model.specs.declared.cell.Kind.{Kind}
+use Rattle.row_model.specs.Rows.{Cells, are_of}
+use Rattle.tables.specs.Table.{Place, TableShape, cells, made_at, values}
 use Rattle.tables.specs.Inside.Keyed.{id_of}
 use Rattle.tables.specs.Keyed.{IsKeyed}
 use Rattle.tables.specs.Writes.{Removes}
@@ -43,7 +44,7 @@ pub record IsDelete (sql : List ℕ) (shape : TableShape) (kinds : List Kind) (g
   pub tests : Bool → List Term
   pub drafted : IsDrafted sql shape.name (written.Delete shape.name (Some test) []) (λ schema at table. deleted schema at table (Some test)) Delete
   pub draft : (schema : Schema) (at : ℕ) (place : Place) → Has schema shape.name at (made_at shape place) → deleted schema at (made_at shape place) (Some test) ≡ Ok (finding place.tree (tests place.rules.is_strict) (col 1 0 ∷ []))
-  pub hits : (place : Place) (key : Row) → are_of kinds key ≡ true → (r : Row) → hit (tests place.rules.is_strict) (col 1 0 ∷ []) key r ≡ goes key (cells (made_at shape place) r)
+  pub hits : (place : Place) (key : Cells) → are_of kinds key ≡ true → (r : Row) → hit (tests place.rules.is_strict) (col 1 0 ∷ []) (values key) r ≡ goes (values key) (cells (made_at shape place) r)
 
 -- what a DELETE does where no foreign key acts
 pub delete_does : (limit : Option ℕ) (mode : Mode) (params : Row) (db after : Database) (text : List ℕ) (at : ℕ) (table : Table) (q : Program) (tally : Tally)
@@ -66,9 +67,10 @@ module _ (sql : List ℕ) (shape : TableShape) (kinds : List Kind) (goes : Row �
   delete_writes = drafted_writes sql shape _ _ Delete it.drafted (λ at q. tt)
 
   -- a DELETE that went through took out the rows that its parameters find, and nothing else
-  pub delete_removes : (old new : State) (key : Row) (count : ℕ) → are_of kinds key ≡ true → Executes sql key old new (Ok count) → Removes (made_at shape) (goes key) old.now new.now
+  pub delete_removes : (old new : State) (given : Cells) (count : ℕ) → are_of kinds given ≡ true → let key = values given in Executes sql key old new (Ok count) → Removes (made_at shape) (goes key) old.now new.now
   unfolding Removes
-  delete_removes old new key count is ran place rows inert stands =
+  delete_removes old new given count is ran place rows inert stands =
+      let key = values given in
       let t = made_at shape place in
       let listed = stands.listed in
       let here = old.now.trees place.tree in
@@ -81,7 +83,7 @@ module _ (sql : List ℕ) (shape : TableShape) (kinds : List Kind) (goes : Row �
       subst (λ all. IsPermutation all (ids_of done.1)) (map-map (λ (r : Row). id_in (rowid r)) (λ (r : Row). rowid r ∷ []) (filter finds here)) (IsPermutation-map (λ (r : Row). id_in (rowid r)) _ _ got) in
       let left : new.now.trees place.tree ≡ filter (λ r. not (finds r)) here = done.3.rows ∙ taken_out finds here (ids_of done.1) stands.keyed ids in
       let shown : map (cells t) (filter (λ r. not (finds r)) here) ≡ filter (λ v. not (goes key v)) (map (cells t) here) =
-      map_filter (cells t) (λ r. not (finds r)) (λ v. not (goes key v)) (λ r. ap not (it.hits place key is r)) here in (
+      map_filter (cells t) (λ r. not (finds r)) (λ v. not (goes key v)) (λ r. ap not (it.hits place given is r)) here in (
         record {
           listed = listed_along old.now.schema new.now.schema t done.0 listed;
           keyed = subst IsKeyed (sym left) (still_keyed (λ r. not (finds r)) here stands.keyed);

@@ -153,8 +153,8 @@ module _ (shape : TableShape) where
   abbrev pub values_of : List Term
   values_of = values_by shape.key width
 
-  abbrev pub update_of : Statement
-  update_of = written.Update shape.name sets_of (Some (test_of 0 (length shape.primary))) []
+  abbrev pub update_of : ℕ → Statement
+  update_of count = written.Update shape.name sets_of (Some (test_of 0 count)) []
 
   -- SELECT of the rowid and of each column
   abbrev pub core_of : Core

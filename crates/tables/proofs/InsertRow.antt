@@ -9,7 +9,6 @@ use Rattle.sqlite.specs.Order.{Row}
 use Rattle.sqlite.specs.Schema.{Schema}
 use Rattle.sqlite.specs.Table.{Table}
 use Rattle.sqlite.specs.Term.{Term}
-use Rattle.sqlite.specs.Kind.{Kind}
 use Rattle.sqlite.specs.Kind.TheVariants.{Integer, Blob}
 use Rattle.sqlite.specs.Cast.{cast, cast_row}
 use Rattle.sqlite.specs.Ops.{unary}
@@ -34,7 +33,9 @@ use Rattle.sqlite_resolve.specs.Lowering.{Checked}
 use Rattle.sqlite_resolve.specs.declared.compiled.Compiled.{Compiled}
 use Rattle.sqlite.specs.Calls.{IsWrite}
 use Rattle.sqlite.specs.Command.{Command}
-use Rattle.tables.specs.Table.{Place, TableShape, Lists, cells, are_of, kind_in, made_at}
+use Rattle.row_model.specs.declared.cell.Kind.{Kind}
+use Rattle.row_model.specs.Rows.{Cells, are_of}
+use Rattle.tables.specs.Table.{Place, TableShape, Lists, cells, kind_in, made_at, values as sql_values}
 use Rattle.tables.specs.Keyed.{IsKeyed}
 use Rattle.tables.specs.Writes.{Adds}
 use Rattle.tables.proofs.Places.{listed_along}
@@ -107,7 +108,7 @@ pub record IsInsert (sql : List ℕ) (shape : TableShape) (kinds : List Kind) : 
   pub plain : p.formats ≡ []
   pub laid : (schema : Schema) (place : Place) → new_rows schema (made_at shape place) (small p.names + small []) columns values ≡ Ok (Values terms width)
   pub whole : slice_range sql p.start p.end ≡ sql
-  pub given : (place : Place) (row : Row) → are_of kinds row ≡ true → IsGiven (made_at shape place) row terms width row
+  pub given : (place : Place) (row : Cells) → are_of kinds row ≡ true → IsGiven (made_at shape place) (sql_values row) terms width (sql_values row)
 
 module _ (sql : List ℕ) (shape : TableShape) (kinds : List Kind) (it : IsInsert sql shape kinds) (schema : Schema) (at : ℕ) (place : Place)
     (has : Has schema shape.name at (made_at shape place)) where
@@ -146,9 +147,10 @@ module _ (sql : List ℕ) (shape : TableShape) (kinds : List Kind) (it : IsInser
   insert_writes = compiles_to_write sql it.p it.parsed (λ schema base k h. insert_command schema base k (rw (it.plain, it.statement) at h))
 
   -- an INSERT that went through added the row of its parameters, and nothing else
-  pub inserts : (old new : State) (given : Row) (count : ℕ) → are_of kinds given ≡ true → Executes sql given old new (Ok count) → Adds (made_at shape) given old.now new.now
-  inserts old new given count fits ran place rows stands =
-      let is = it.given place given fits in
+  pub inserts : (old new : State) (row : Cells) (count : ℕ) → are_of kinds row ≡ true → let given = sql_values row in Executes sql given old new (Ok count) → Adds (made_at shape) given old.now new.now
+  inserts old new row count fits ran place rows stands =
+      let given = sql_values row in
+      let is = it.given place row fits in
       let t : Table = made_at shape place in
       let w = runs_by sql given old new count (Insert stands.listed.at (Values it.terms it.width)) sql
       (insert_means sql shape kinds it old.now.schema stands.listed.at place (has_listed old.now.schema t stands.listed)) ran in
@@ -156,13 +158,13 @@ module _ (sql : List ℕ) (shape : TableShape) (kinds : List Kind) (it : IsInser
       let applies : Applies old.now.schema Enforced old.now.trees (insert_edit old.now t (is.source ∷ [])) new.now.trees =
       subst (λ all. Applies old.now.schema Enforced old.now.trees (insert_edit old.now t all) new.now.trees) is.one done.1 in
       let here = old.now.trees place.tree in
-      let row = with_rowid Chosen here (cast_row t is.source) in
-      let free : is_taken here row ≡ false = not_true _ applies.fresh in
+      let made = with_rowid Chosen here (cast_row t is.source) in
+      let free : is_taken here made ≡ false = not_true _ applies.fresh in
       let grown = IsPermutation-trans _ _ _ (IsPermutation-cons given rows _ stands.holds)
-      (subst (λ first. IsPermutation (first ∷ map (cells t) here) (map (cells t) (put_row row here))) (is.shown here) (IsPermutation-map (cells t) _ _ (put_row_permutes row here free))) in (
+      (subst (λ first. IsPermutation (first ∷ map (cells t) here) (map (cells t) (put_row made here))) (is.shown here) (IsPermutation-map (cells t) _ _ (put_row_permutes made here free))) in (
         record {
           listed = listed_along old.now.schema new.now.schema t done.0 stands.listed;
-          keyed = subst IsKeyed (sym applies.rows) (keyed_put row here (and_parts _ _ applies.keyed).0 free stands.keyed);
+          keyed = subst IsKeyed (sym applies.rows) (keyed_put made here (and_parts _ _ applies.keyed).0 free stands.keyed);
           holds = subst (λ all. IsPermutation (given ∷ rows) (map (cells t) all)) (sym applies.rows) grown;
         },
         record { schema = done.0; others = applies.tables },

@@ -10,10 +10,11 @@ use Rattle.sqlite.specs.declared.types.Value.TheVariants.{Int, Text as Words}
 use Rattle.sqlite_value.specs.Keys.{first_key}
 use Rattle.row_model.specs.declared.table.Table.{Table}
 use Rattle.row_model.specs.declared.table.Table.TheVariants.{Edition, Supervisor, Project, Student, Round, OldChoice, OldPlacement, Import, RoundAim, Choice, Placement}
-use Rattle.tables.specs.Table.{Place, cells, choices, kinds_of, made_at, shape_of, sharing, table_at}
+use Rattle.row_model.specs.declared.row.Group.{Group}
+use Rattle.row_model.specs.declared.row.Group.TheVariants.{Key, List as OfList, Placed}
+use Rattle.row_model.specs.Rows.{keyed, kinds_of, shared_by, shared_kinds}
+use Rattle.tables.specs.Table.{Place, cells, choices, made_at, removal, shape_of, table_at}
 use Rattle.tables.specs.Writes.{begins_with, goes_on}
-use Rattle.tables.specs.declared.table.Group.{Group}
-use Rattle.tables.specs.declared.table.Group.TheVariants as group
 use Rattle.tables.proofs.Texts.{Anywhere, AreFound, AreRead, AreTested, Each, Gives, IsShown, Removal, Removes, Texts, either}
 use Rattle.tables.proofs.Forms.{finds_of, values_of}
 use Rattle.tables.proofs.InsertRow.{cast_bytes, cast_null, cast_int}
@@ -85,10 +86,11 @@ are_given Placement at = λ student round project rank. record { one = refl; add
 
 -- what every table gives
 pub texts : (table : Table) → Texts table
-texts table = record { read = are_read table; tested = are_tested table; all = are_shown table; keys = are_found table; rows = are_given table }
+texts table = record { read = are_read table; tested = are_tested table; all = are_shown table; rows = are_given table }
 
 -- and what the text gives that takes a group of rows away
-pub group_text : (rows : Group) → let s = sharing rows in Removal s.table s.removal s.before s.shared
+pub group_text : (group : Group) → let s = shared_by group in Removal s.0 (removal group) s.1 (shared_kinds group)
 unfolding everything listing_schema first_key
-group_text group.List = record { read = refl; tested = λ is_strict. either (Anywhere Choice (λ schema at place. Removes Choice schema at place 0 2)) is_strict (λ schema at tree bare checks there. rw there (rw there (rw there refl))) (λ schema at tree bare checks there. rw there (rw there (rw there refl))); keys = λ at. list_found at.rules.is_strict at }
-group_text group.Placed = record { read = refl; tested = λ is_strict. either (Anywhere Placement (λ schema at place. Removes Placement schema at place 1 1)) is_strict (λ schema at tree bare checks there. rw there (rw there (rw there refl))) (λ schema at tree bare checks there. rw there (rw there (rw there refl))); keys = λ at. placed_found at.rules.is_strict at }
+group_text (Key table) = record { count = keyed table; read = (are_read table).delete; tested = λ is_strict schema at tree bare checks there. (are_tested table is_strict schema at tree bare checks there).removal; keys = are_found table }
+group_text OfList = record { count = 2; read = refl; tested = λ is_strict. either (Anywhere Choice (λ schema at place. Removes Choice schema at place 0 2)) is_strict (λ schema at tree bare checks there. rw there (rw there (rw there refl))) (λ schema at tree bare checks there. rw there (rw there (rw there refl))); keys = λ at. list_found at.rules.is_strict at }
+group_text Placed = record { count = 1; read = refl; tested = λ is_strict. either (Anywhere Placement (λ schema at place. Removes Placement schema at place 1 1)) is_strict (λ schema at tree bare checks there. rw there (rw there (rw there refl))) (λ schema at tree bare checks there. rw there (rw there (rw there refl))); keys = λ at. placed_found at.rules.is_strict at }

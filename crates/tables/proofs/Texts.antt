@@ -1,11 +1,9 @@
 -- The texts of a table mean what its row declares. A table gives `Texts`: that its texts are read as the forms of its shape, and what
 -- these are resolved to over the table, which the resolver computes of the literal texts. The rest is here, once for all tables.
-use Rattle.std.proofs.Common.{◌≡◌, ℕ, ℤ, suc, ◌/◌, slice_get, ◌^◌, List, [], ◌∷◌, length, map, take, drop, slice_range, arith, nat_lt, Bool, true, false, None, Some, Ok, Err, refl, ap}
+use Rattle.std.proofs.Common.{◌≡◌, ℕ, ℤ, suc, ◌/◌, slice_get, ◌^◌, List, [], ◌∷◌, length, map, take, slice_range, arith, nat_lt, pos, Bool, true, false, None, Some, Ok, Err, refl, ap}
 use Rattle.std.proofs.lemmas.List.{take_all}
-use Rattle.sqlite.specs.declared.types.Value.TheVariants.{Null, Int, Text as Words, Blob as Bytes}
+use Rattle.sqlite.specs.declared.types.Value.TheVariants.{Null, Int, Text as Words, Blob}
 use Rattle.sqlite.specs.Order.{Row}
-use Rattle.sqlite.specs.Kind.{Kind}
-use Rattle.sqlite.specs.Kind.TheVariants.{Integer, Text, Blob, Real as RealKind, Any}
 use Rattle.sqlite.specs.Schema.{Schema}
 use Rattle.sqlite.specs.Term.{Term, col}
 use Rattle.sqlite.specs.Command.{Command}
@@ -35,8 +33,13 @@ use Rattle.sqlite_resolve.specs.Write.{updated, deleted}
 use Rattle.sqlite_resolve.specs.declared.scope.Output.{Output}
 use Rattle.sqlite_resolve.specs.declared.error.CompileError.TheVariants.{NoSuchTable}
 use Rattle.sqlite_tied.specs.Compute.{everything}
+use Rattle.row_model.specs.declared.cell.Cell.TheVariants.{Text, Number, Bytes}
+use Rattle.row_model.specs.declared.cell.Kind.{Kind}
+use Rattle.row_model.specs.declared.cell.Kind.TheVariants as kind
+use Rattle.row_model.specs.declared.row.Group.TheVariants.{Key}
 use Rattle.row_model.specs.declared.table.Table.{Table}
-use Rattle.tables.specs.Table.{TableShape, Sql, Place, Lists, rules_of, shape_of, sql_of, table_at, kinds_of, are_of, cells}
+use Rattle.row_model.specs.Rows.{Cells, are_of, keyed, kinds_of, shared_kinds}
+use Rattle.tables.specs.Table.{TableShape, Sql, Place, Lists, rules_of, shape_of, sql_of, table_at, cells, values}
 use Rattle.tables.specs.Writes.{begins_with, goes_on}
 use Rattle.tables.proofs.CreateTable.{IsCreate, made_command}
 use Rattle.tables.proofs.InsertRow.{IsInsert}
@@ -50,20 +53,17 @@ use Rattle.tables.proofs.Forms.{read_as, laid_out, width, create_of, names_of, g
 -- this holds of each row of these kinds
 abbrev pub Each : List Kind → (Row → Type 0) → Type 0
 Each [] P = P []
-Each (Integer ∷ kinds) P = (n : ℤ) → Each kinds (λ row. P (Int n ∷ row))
-Each (Text ∷ kinds) P = (text : List ℕ) → Each kinds (λ row. P (Words text ∷ row))
-Each (Blob ∷ kinds) P = (bytes : List ℕ) → Each kinds (λ row. P (Bytes bytes ∷ row))
-Each (kind ∷ kinds) P = (row : Row) → P row
+Each (kind.Number ∷ kinds) P = (n : ℤ) → Each kinds (λ row. P (Int n ∷ row))
+Each (kind.Text ∷ kinds) P = (text : List ℕ) → Each kinds (λ row. P (Words text ∷ row))
+Each (kind.Bytes ∷ kinds) P = (bytes : List ℕ) → Each kinds (λ row. P (Blob bytes ∷ row))
 
--- so it holds of a row that is of these kinds
-by_kinds : (kinds : List Kind) (P : Row → Type 0) → Each kinds P → (row : Row) → are_of kinds row ≡ true → P row
+-- so it holds of cells that are of these kinds
+by_kinds : (kinds : List Kind) (P : Row → Type 0) → Each kinds P → (row : Cells) → are_of kinds row ≡ true → P (values row)
 by_kinds [] P each [] is = each
-by_kinds [] P each (value ∷ row) is = absurd (cc)
-by_kinds (Integer ∷ kinds) P each (Int n ∷ row) is = by_kinds kinds _ (each n) row is
-by_kinds (Text ∷ kinds) P each (Words text ∷ row) is = by_kinds kinds _ (each text) row is
-by_kinds (Blob ∷ kinds) P each (Bytes bytes ∷ row) is = by_kinds kinds _ (each bytes) row is
-by_kinds (RealKind ∷ kinds) P each row is = each row
-by_kinds (Any ∷ kinds) P each row is = each row
+by_kinds [] P each (c ∷ row) is = absurd (cc)
+by_kinds (kind.Number ∷ kinds) P each (Number n ∷ row) is = by_kinds kinds _ (each (pos n)) row is
+by_kinds (kind.Text ∷ kinds) P each (Text text ∷ row) is = by_kinds kinds _ (each text) row is
+by_kinds (kind.Bytes ∷ kinds) P each (Bytes bytes ∷ row) is = by_kinds kinds _ (each bytes) row is
 by_kinds _ P each _ is = absurd (cc)
 
 -- what holds of true and of false holds of each
@@ -82,8 +82,8 @@ module _ (table : Table) where
   pub record Gives (place : Place) (row : Row) : Type 0 where
     pub one : value_rows row (suc (width shape)) (length (terms_of shape) / suc (width shape)) (terms_of shape) ≡ laid_out Null shape.key row ∷ []
     pub added : (here : List Row) → cells (table_at table place) (with_rowid Chosen here (cast_row (table_at table place) (laid_out Null shape.key row))) ≡ row
-    pub finds : (r : Row) → hit (finds_of shape place.rules.is_strict 0 (length shape.primary)) (showing (values_of shape)) row r ≡ begins_with (take (length shape.primary) row) (cells (table_at table place) r)
-    pub set : (r : Row) → is_int (rowid r) ≡ true → hit (finds_of shape place.rules.is_strict 0 (length shape.primary)) (showing (values_of shape)) row r ≡ true
+    pub finds : (r : Row) → hit (finds_of shape place.rules.is_strict 0 (keyed table)) (showing (values_of shape)) row r ≡ begins_with (take (keyed table) row) (cells (table_at table place) r)
+    pub set : (r : Row) → is_int (rowid r) ≡ true → hit (finds_of shape place.rules.is_strict 0 (keyed table)) (showing (values_of shape)) row r ≡ true
         → cells (table_at table place) (cast_row (table_at table place) (rowid r ∷ eval_all (values_of shape) (row ∷ r ∷ []))) ≡ row
 
   -- the texts are read as the forms of the shape: CREATE makes the table, INSERT lays a row out, and SELECT shows it
@@ -91,8 +91,8 @@ module _ (table : Table) where
     pub body : TableBody
     pub create : first said.create ≡ Ok (read_as said.create (written.CreateTable (create_of shape body)) 0)
     pub insert : first said.insert ≡ Ok (read_as said.insert (insert_of shape) (width shape))
-    pub update : first said.update ≡ Ok (read_as said.update (update_of shape) (width shape))
-    pub delete : first said.delete ≡ Ok (read_as said.delete (delete_of shape 0 shape.named) shape.named)
+    pub update : first said.update ≡ Ok (read_as said.update (update_of shape (keyed table)) (width shape))
+    pub delete : first said.delete ≡ Ok (read_as said.delete (delete_of shape 0 (keyed table)) (keyed table))
     pub select : first said.select ≡ Ok (read_as said.select (written.Select (select_of shape)) 0)
     pub defined : define.table [] (create_of shape body) ≡ Ok (table_at table (record { tree = 0; rules = rules_of table }))
     pub unlisted : table_named listing_schema shape.name ≡ None
@@ -106,8 +106,8 @@ module _ (table : Table) where
 
   -- the tests are resolved over the table
   pub record AreTested (schema : Schema) (at : ℕ) (place : Place) : Type 0 where
-    pub removal : Removes schema at place 0 shape.named
-    pub change : updated schema at (table_at table place) (sets_of shape) (Some (test_of shape 0 (length shape.primary))) ≡ Ok (finding place.tree (finds_of shape place.rules.is_strict 0 (length shape.primary)) (showing (values_of shape)))
+    pub removal : Removes schema at place 0 (keyed table)
+    pub change : updated schema at (table_at table place) (sets_of shape) (Some (test_of shape 0 (keyed table))) ≡ Ok (finding place.tree (finds_of shape place.rules.is_strict 0 (keyed table)) (showing (values_of shape)))
 
   -- this holds where a schema has the table at a position, which is STRICT or not
   abbrev pub Anywhere : (Schema → ℕ → Place → Type 0) → Bool → Type 0
@@ -122,23 +122,23 @@ module _ (table : Table) where
 
   -- each key finds the rows that begin with it
   abbrev pub AreFound : Type 0
-  AreFound = (place : Place) → Each (take shape.named (kinds_of table)) (λ key. (r : Row) → hit (finds_of shape place.rules.is_strict 0 shape.named) (col 1 0 ∷ []) key r ≡ begins_with key (cells (table_at table place) r))
+  AreFound = (place : Place) → Each (shared_kinds (Key table)) (λ key. (r : Row) → hit (finds_of shape place.rules.is_strict 0 (keyed table)) (col 1 0 ∷ []) key r ≡ begins_with key (cells (table_at table place) r))
 
-  -- what a table gives: how its texts are read and resolved, and, for each key and each row of its kinds, what is found and set
+  -- what a table gives: how its texts are read and resolved, and, for each row of its kinds, what is found and set
   pub record Texts : Type 0 where
     pub read : AreRead
     pub tested : (is_strict : Bool) → Anywhere AreTested is_strict
     pub all : IsShown
-    pub keys : AreFound
     pub rows : (place : Place) → Each (kinds_of table) (Gives place)
 
-  -- What a text gives that takes rows away by this many columns after this many others: how it is read and resolved, and which rows a
-  -- key finds.
-  pub record Removal (sql : List ℕ) (before count : ℕ) : Type 0 where
+  -- What a text gives that takes rows away by columns of these kinds after this many others: how it is read and resolved, and which rows
+  -- a key finds.
+  pub record Removal (sql : List ℕ) (before : ℕ) (kinds : List Kind) : Type 0 where
+    pub count : ℕ
     pub read : first sql ≡ Ok (read_as sql (delete_of shape before count) count)
     pub tested : (is_strict : Bool) → Anywhere (λ schema at place. Removes schema at place before count) is_strict
     pub keys : (place : Place)
-        → Each (take count (drop before (kinds_of table))) (λ key. (r : Row) → hit (finds_of shape place.rules.is_strict before count) (col 1 0 ∷ []) key r ≡ goes_on before key (cells (table_at table place) r))
+        → Each kinds (λ key. (r : Row) → hit (finds_of shape place.rules.is_strict before count) (col 1 0 ∷ []) key r ≡ goes_on before key (cells (table_at table place) r))
 
 read_whole : (sql : List ℕ) → slice_range sql 0 (length sql) ≡ sql
 read_whole sql = take_all _ sql (omega arith)
@@ -191,34 +191,29 @@ module _ (table : Table) (it : Texts table) where
     whole = read_whole (said table).insert;
     given = λ place row is.
         let gives = by_kinds (kinds_of table) (Gives table place) (it.rows place) row is in
-        record { source = laid_out Null told.key row; one = gives.one; shown = gives.added };
+        record { source = laid_out Null told.key (values row); one = gives.one; shown = gives.added };
   }
 
   -- a text that takes rows away
-  pub removal_is : (sql : List ℕ) (before count : ℕ) → Removal table sql before count → IsDelete sql told (take count (drop before (kinds_of table))) (goes_on before)
+  pub removal_is : (sql : List ℕ) (before : ℕ) (kinds : List Kind) → Removal table sql before kinds → IsDelete sql told kinds (goes_on before)
   unfolding compiled planned meaning timed returning shows command delete
-  removal_is sql before count removal = record {
-    test = test_of told before count;
-    tests = λ is_strict. finds_of told is_strict before count;
-    drafted = record { p = read_as sql (delete_of told before count) count; parsed = removal.read; statement = refl; plain = refl; whole = read_whole sql; unlisted = rw (removal.read, it.read.unlisted) refl; untimed = λ schema. refl; shows = λ schema base. refl; commands = λ schema base. refl };
+  removal_is sql before kinds removal = record {
+    test = test_of told before removal.count;
+    tests = λ is_strict. finds_of told is_strict before removal.count;
+    drafted = record { p = read_as sql (delete_of told before removal.count) removal.count; parsed = removal.read; statement = refl; plain = refl; whole = read_whole sql; unlisted = rw (removal.read, it.read.unlisted) refl; untimed = λ schema. refl; shows = λ schema base. refl; commands = λ schema base. refl };
     draft = λ schema at place has. removal.tested place.rules.is_strict schema at place.tree place.rules.bare place.rules.checks has.there;
-    hits = λ place. by_kinds (take count (drop before (kinds_of table))) _ (removal.keys place);
+    hits = λ place. by_kinds kinds _ (removal.keys place);
   }
 
-  -- the text of the table that does
-  pub delete_is : IsDelete (said table).delete told (take told.named (kinds_of table)) begins_with
-  delete_is = removal_is (said table).delete 0 told.named
-      (record { read = it.read.delete; tested = λ is_strict schema at tree bare checks there. (it.tested is_strict schema at tree bare checks there).removal; keys = it.keys })
-
   -- the text that sets a row by its key
-  pub update_is : IsUpdate (said table).update told (kinds_of table) (length told.primary)
+  pub update_is : IsUpdate (said table).update told (kinds_of table) (keyed table)
   unfolding compiled planned meaning timed returning shows command update
   update_is = record {
     sets = sets_of told;
-    test = test_of told 0 (length told.primary);
-    tests = λ is_strict. finds_of told is_strict 0 (length told.primary);
+    test = test_of told 0 (keyed table);
+    tests = λ is_strict. finds_of told is_strict 0 (keyed table);
     values = values_of told;
-    drafted = record { p = read_as (said table).update (update_of told) (width told); parsed = it.read.update; statement = refl; plain = refl; whole = read_whole (said table).update; unlisted = rw (it.read.update, it.read.unlisted) refl; untimed = λ schema. refl; shows = λ schema base. refl; commands = λ schema base. refl };
+    drafted = record { p = read_as (said table).update (update_of told (keyed table)) (width told); parsed = it.read.update; statement = refl; plain = refl; whole = read_whole (said table).update; unlisted = rw (it.read.update, it.read.unlisted) refl; untimed = λ schema. refl; shows = λ schema base. refl; commands = λ schema base. refl };
     draft = λ schema at place has. (it.tested place.rules.is_strict schema at place.tree place.rules.bare place.rules.checks has.there).change;
     hits = λ place row is. (by_kinds (kinds_of table) (Gives table place) (it.rows place) row is).finds;
     set = λ place row is. (by_kinds (kinds_of table) (Gives table place) (it.rows place) row is).set;

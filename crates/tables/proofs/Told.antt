@@ -1,5 +1,6 @@
 -- What the statements of each table do.
-use Rattle.std.proofs.Common.{◌≡◌, inl, inr, sym, ◌∙◌, ℕ, List, [], subst, length, take, Result, Ok, Err, IfOk, Vec}
+use Rattle.std.proofs.Common.{◌≡◌, inl, inr, sym, ◌∙◌, ℕ, List, [], subst, true, Result, Ok, Err, IfOk, Vec}
+use Rattle.std.proofs.lemmas.List.{take-map}
 use Rattle.std.specs.declared.alloc.Global.{Global}
 use Rattle.sqlite.specs.Order.{Row}
 use Rattle.sqlite.specs.State.{State, Executes, Shown, CommitsShowing}
@@ -7,9 +8,10 @@ use Rattle.sqlite.specs.Tree.{Trees}
 use Rattle.tables.specs.declared.fault.TableFault.{TableFault}
 use Rattle.tables.specs.Keyed.{IsKeyed}
 use Rattle.row_model.specs.declared.table.Table.{Table}
-use Rattle.tables.specs.Table.{Sharing, Sql, rules_of, shape_of, sharing, sql_of, table_at, kinds_of, kinds_shared, key_in, IsRowOf, IsKeyOf, IsNamed}
-use Rattle.tables.specs.declared.table.Group.{Group}
-use Rattle.tables.specs.Writes.{Creates, Enters, Removes, begins_with, entering, goes_on}
+use Rattle.row_model.specs.declared.row.Group.{Group}
+use Rattle.row_model.specs.Rows.{Cells, are_of, key_in, keyed, kinds_of, shared_by, shared_kinds}
+use Rattle.tables.specs.Table.{Sql, removal, rules_of, shape_of, sql_of, table_at, value_of, values}
+use Rattle.tables.specs.Writes.{Creates, Enters, Leaves, Puts, entering, goes_on}
 use Rattle.tables.specs.declared.statements.Entering.{Entering}
 use Rattle.tables.specs.declared.statements.Entering.TheVariants.{InPlace, New}
 use Rattle.tables.specs.Inside.Steps.{HasRun, RanQuery}
@@ -17,11 +19,11 @@ use Rattle.tables.specs.Steps.{HasStepped, Shows, Rests}
 use Rattle.tables.proofs.CreateTable.{create_makes, create_writes}
 use Rattle.tables.proofs.InsertRow.{inserts, insert_writes}
 use Rattle.tables.proofs.UpdateRow.{update_puts, update_writes}
-use Rattle.tables.proofs.DeleteRows.{delete_removes, delete_writes}
+use Rattle.tables.proofs.DeleteRows.{IsDelete, delete_removes, delete_writes}
 use Rattle.tables.proofs.SelectAll.{read_shows, select_commits, select_rests}
 use Rattle.tables.proofs.Runs.{stepped_by}
 use Rattle.tables.proofs.Understood.{IsWriteText, written}
-use Rattle.tables.proofs.Texts.{create_is, insert_is, update_is, delete_is, select_is, removal_is}
+use Rattle.tables.proofs.Texts.{create_is, insert_is, update_is, select_is, removal_is}
 use Rattle.tables.proofs.Tables.{group_text, texts}
 use Rattle.tables.proofs.Causes.{unordered, unread}
 use Rattle.tables.specs.Causes.{FailsToRead, IsStopped, IsUnread, ShowsInOrder, Went}
@@ -32,57 +34,48 @@ module _ (table : Table) (told : Sql) (is : told ≡ sql_of table) (old new : St
   pub created : HasRun told.create [] count old new → HasStepped (Creates (table_at table) (rules_of table) []) old new
   created run = stepped_by _ _ _ _ _ _ (create_writes (sql_of table).create (shape_of table) (rules_of table) (create_is table (texts table))) (create_makes (sql_of table).create (shape_of table) (rules_of table) (create_is table (texts table)) old new count) (subst (λ (sql : Sql). HasRun sql.create [] count old new) is run)
 
-  -- rows were taken away
-  pub removed : (key : Row) → IsKeyOf table key → HasRun told.delete key count old new → HasStepped (Removes (table_at table) (begins_with key)) old new
-  removed key fits run =
-      stepped_by _ _ _ _ _ _ (delete_writes (sql_of table).delete (shape_of table) (take (shape_of table).named (kinds_of table)) begins_with (delete_is table (texts table))) (delete_removes (sql_of table).delete (shape_of table) (take (shape_of table).named (kinds_of table)) begins_with (delete_is table (texts table)) old new key count fits)
-      (subst (λ (sql : Sql). HasRun sql.delete key count old new) is run)
-
   -- and as statements
   pub went_creating : HasRun told.create [] count old new → Went (sql_of table).create [] old.step_limit old.now new.now
   went_creating run =
       let writes = create_writes (sql_of table).create (shape_of table) (rules_of table) (create_is table (texts table)) in
       (count, written _ _ old new count writes (subst (λ (sql : Sql). HasRun sql.create [] count old new) is run).ran)
 
-  pub went_deleting : (key : Row) → HasRun told.delete key count old new → Went (sql_of table).delete key old.step_limit old.now new.now
-  went_deleting key run =
-      let kinds = take (shape_of table).named (kinds_of table) in
-      let writes = delete_writes (sql_of table).delete (shape_of table) kinds begins_with (delete_is table (texts table)) in
-      (count, written _ _ old new count writes (subst (λ (sql : Sql). HasRun sql.delete key count old new) is run).ran)
-
 -- a row was brought into its table
-module _ (table : Table) (row : Row) (fits : IsRowOf table row) (old new : State) (count : ℕ) where
+module _ (table : Table) (row : Cells) (fits : are_of (kinds_of table) row ≡ true) (old new : State) (count : ℕ) where
   entry_writes : (way : Entering) → IsWriteText (entering way (sql_of table))
-  entry_writes InPlace = update_writes (sql_of table).update (shape_of table) (kinds_of table) (length (shape_of table).primary) (update_is table (texts table))
+  entry_writes InPlace = update_writes (sql_of table).update (shape_of table) (kinds_of table) (keyed table) (update_is table (texts table))
   entry_writes New = insert_writes (sql_of table).insert (shape_of table) (kinds_of table) (insert_is table (texts table))
 
-  enters : (way : Entering) → Executes (entering way (sql_of table)) row old new (Ok count) → Enters way (table_at table) (key_in table row) row old.now new.now
-  enters InPlace = update_puts (sql_of table).update (shape_of table) (kinds_of table) (length (shape_of table).primary) (update_is table (texts table)) old new row fits count
-  enters New = inserts (sql_of table).insert (shape_of table) (kinds_of table) (insert_is table (texts table)) old new row count fits
+  enters : (way : Entering) → Executes (entering way (sql_of table)) (values row) old new (Ok count) → Enters way (table_at table) (values (key_in table row)) (values row) old.now new.now
+  enters InPlace ran =
+      subst (λ key. Puts (table_at table) key (values row) old.now new.now) (take-map value_of (keyed table) row)
+      (update_puts (sql_of table).update (shape_of table) (kinds_of table) (keyed table) (update_is table (texts table)) old new row fits count ran)
+  enters New ran = inserts (sql_of table).insert (shape_of table) (kinds_of table) (insert_is table (texts table)) old new row count fits ran
 
-  pub entered : (way : Entering) (text : List ℕ) → text ≡ entering way (sql_of table) → HasRun text row count old new → HasStepped (Enters way (table_at table) (key_in table row) row) old new
-  entered way text is run = stepped_by (Enters way (table_at table) (key_in table row) row) (entering way (sql_of table)) row count old new (entry_writes way) (enters way) (subst (λ sql. HasRun sql row count old new) is run)
+  pub entered : (way : Entering) (text : List ℕ) → text ≡ entering way (sql_of table) → HasRun text (values row) count old new → HasStepped (Enters way (table_at table) (values (key_in table row)) (values row)) old new
+  entered way text is run =
+      stepped_by (Enters way (table_at table) (values (key_in table row)) (values row)) (entering way (sql_of table)) (values row) count old new (entry_writes way) (enters way) (subst (λ sql. HasRun sql (values row) count old new) is run)
 
-  pub went_entering : (way : Entering) (text : List ℕ) → text ≡ entering way (sql_of table) → HasRun text row count old new → Went (entering way (sql_of table)) row old.step_limit old.now new.now
-  went_entering way text is run = (count, written _ _ old new count (entry_writes way) (subst (λ sql. HasRun sql row count old new) is run).ran)
+  pub went_entering : (way : Entering) (text : List ℕ) → text ≡ entering way (sql_of table) → HasRun text (values row) count old new → Went (entering way (sql_of table)) (values row) old.step_limit old.now new.now
+  went_entering way text is run = (count, written _ _ old new count (entry_writes way) (subst (λ sql. HasRun sql (values row) count old new) is run).ran)
 
--- a group of rows was taken away
-module _ (rows : Group) (text : List ℕ) (is : text ≡ (sharing rows).removal) (old new : State) (count : ℕ) (key : Row) (fits : IsNamed rows key) where
-  abbrev s : Sharing
-  s = sharing rows
+-- the rows of a group were taken away
+module _ (group : Group) (text : List ℕ) (is : text ≡ removal group) (old new : State) (count : ℕ) (key : Cells) (fits : are_of (shared_kinds group) key ≡ true) where
+  abbrev s : Table × ℕ
+  s = shared_by group
 
-  pub group_removed : HasRun text key count old new → HasStepped (Removes (table_at s.table) (goes_on s.before key)) old new
-  group_removed run =
-      let it = removal_is s.table (texts s.table) s.removal s.before s.shared (group_text rows) in
-      stepped_by _ _ _ _ _ _ (delete_writes s.removal (shape_of s.table) (kinds_shared rows) (goes_on s.before) it)
-      (delete_removes s.removal (shape_of s.table) (kinds_shared rows) (goes_on s.before) it old new key count fits)
-      (subst (λ sql. HasRun sql key count old new) is run)
+  it : IsDelete (removal group) (shape_of s.0) (shared_kinds group) (goes_on s.1)
+  it = removal_is s.0 (texts s.0) (removal group) s.1 (shared_kinds group) (group_text group)
 
-  pub went_removing : HasRun text key count old new → Went s.removal key old.step_limit old.now new.now
-  went_removing run =
-      let it = removal_is s.table (texts s.table) s.removal s.before s.shared (group_text rows) in
-      let writes = delete_writes s.removal (shape_of s.table) (kinds_shared rows) (goes_on s.before) it in
-      (count, written _ _ old new count writes (subst (λ sql. HasRun sql key count old new) is run).ran)
+  pub left : HasRun text (values key) count old new → HasStepped (Leaves group (values key)) old new
+  left run =
+      stepped_by _ _ _ _ _ _ (delete_writes (removal group) (shape_of s.0) (shared_kinds group) (goes_on s.1) it)
+      (delete_removes (removal group) (shape_of s.0) (shared_kinds group) (goes_on s.1) it old new key count fits)
+      (subst (λ sql. HasRun sql (values key) count old new) is run)
+
+  pub went_leaving : HasRun text (values key) count old new → Went (removal group) (values key) old.step_limit old.now new.now
+  went_leaving run =
+      (count, written _ _ old new count (delete_writes (removal group) (shape_of s.0) (shared_kinds group) (goes_on s.1) it) (subst (λ sql. HasRun sql (values key) count old new) is run).ran)
 
 module _ (table : Table) (told : Sql) (is : told ≡ sql_of table) (old new : State) where
   -- what a reading shows of the table

@@ -6,7 +6,6 @@ use Rattle.std.proofs.lemmas.List.Sorted.{IsPermutation-refl, IsPermutation-cons
 use Rattle.sqlite_keyed.proofs.ListLemmas.{map-map}
 use Rattle.sqlite.specs.Schema.{Schema}
 use Rattle.sqlite.specs.Table.{Table}
-use Rattle.sqlite.specs.Kind.{Kind}
 use Rattle.sqlite.specs.Order.{Row}
 use Rattle.sqlite_ast.specs.declared.Statement.TheVariants as written
 use Rattle.sqlite_ast.specs.declared.Expr.{Expr}
@@ -31,7 +30,9 @@ use Rattle.sqlite_rules.proofs.ListLemmas.{all_has}
 use Rattle.sqlite.proofs.Callers.{one_step}
 use Rattle.tables.specs.Inside.Keyed.{id_of}
 use Rattle.tables.specs.Keyed.{IsKeyed}
-use Rattle.tables.specs.Table.{Place, TableShape, cells, are_of, made_at}
+use Rattle.row_model.specs.declared.cell.Kind.{Kind}
+use Rattle.row_model.specs.Rows.{Cells, are_of}
+use Rattle.tables.specs.Table.{Place, TableShape, cells, made_at, values as sql_values}
 use Rattle.tables.specs.Writes.{begins_with, with_row, Puts}
 use Rattle.tables.proofs.Places.{listed_along}
 use Rattle.tables.proofs.InsertKeyed.{went, same_value}
@@ -55,9 +56,9 @@ pub record IsUpdate (sql : List ℕ) (shape : TableShape) (kinds : List Kind) (w
   pub values : List Term
   pub drafted : IsDrafted sql shape.name (written.Update shape.name sets (Some test) []) (λ schema at table. updated schema at table sets (Some test)) Update
   pub draft : (schema : Schema) (at : ℕ) (place : Place) → Finds schema shape.name at (made_at shape place) → updated schema at (made_at shape place) sets (Some test) ≡ Ok (finding place.tree (tests place.rules.is_strict) (showing values))
-  pub hits : (place : Place) (row : Row) → are_of kinds row ≡ true → (r : Row) → hit (tests place.rules.is_strict) (showing values) row r ≡ begins_with (take width row) (cells (made_at shape place) r)
-  pub set : (place : Place) (row : Row) → are_of kinds row ≡ true → (r : Row) → is_int (rowid r) ≡ true → hit (tests place.rules.is_strict) (showing values) row r ≡ true
-      → cells (made_at shape place) (cast_row (made_at shape place) (rowid r ∷ eval_all values (row ∷ r ∷ []))) ≡ row
+  pub hits : (place : Place) (row : Cells) → are_of kinds row ≡ true → (r : Row) → hit (tests place.rules.is_strict) (showing values) (sql_values row) r ≡ begins_with (take width (sql_values row)) (cells (made_at shape place) r)
+  pub set : (place : Place) (row : Cells) → are_of kinds row ≡ true → (r : Row) → is_int (rowid r) ≡ true → hit (tests place.rules.is_strict) (showing values) (sql_values row) r ≡ true
+      → cells (made_at shape place) (cast_row (made_at shape place) (rowid r ∷ eval_all values (sql_values row ∷ r ∷ []))) ≡ sql_values row
 
 -- what an UPDATE does, where no foreign key acts
 pub update_does : (limit : Option ℕ) (mode : Mode) (params : Row) (db after : Database) (text : List ℕ) (at : ℕ) (table : Table) (q : Program) (tally : Tally)
@@ -147,9 +148,10 @@ module _ (sql : List ℕ) (shape : TableShape) (kinds : List Kind) (width : ℕ)
   update_writes = drafted_writes sql shape _ _ Update it.drafted (λ at q. tt)
 
   -- an UPDATE that went through put the given row in the place of each with its key
-  pub update_puts : (old new : State) (row : Row) → are_of kinds row ≡ true → (count : ℕ) → Executes sql row old new (Ok count) → Puts (made_at shape) (take width row) row old.now new.now
+  pub update_puts : (old new : State) (given : Cells) → are_of kinds given ≡ true → (count : ℕ) → let row = sql_values given in Executes sql row old new (Ok count) → Puts (made_at shape) (take width row) row old.now new.now
   unfolding Puts
-  update_puts old new row is count ran place rows inert stands =
+  update_puts old new given is count ran place rows inert stands =
+      let row = sql_values given in
       let t = made_at shape place in
       let key = take width row in
       let listed = stands.listed in
@@ -168,9 +170,9 @@ module _ (sql : List ℕ) (shape : TableShape) (kinds : List Kind) (width : ℕ)
         record {
           listed = listed_along old.now.schema new.now.schema t done.0 listed;
           keyed = subst IsKeyed (sym there)
-              (keyed_put_all (map (remade t) answer) left ints fresh (left_keyed t find it.values row key here answer rows stands.keyed (it.hits place row is) (it.set place row is) got stands.holds));
+              (keyed_put_all (map (remade t) answer) left ints fresh (left_keyed t find it.values row key here answer rows stands.keyed (it.hits place given is) (it.set place given is) got stands.holds));
           holds = subst (λ all. IsPermutation (with_row key row rows) (map (cells t) all)) (sym there)
-              (together t find it.values row key here answer rows stands.keyed (it.hits place row is) (it.set place row is) got stands.holds _ (put_all_permutes (map (remade t) answer) left fresh));
+              (together t find it.values row key here answer rows stands.keyed (it.hits place given is) (it.set place given is) got stands.holds _ (put_all_permutes (map (remade t) answer) left fresh));
         },
         record { schema = done.0; others = done.3.tables },
       )

@@ -1,8 +1,8 @@
 -- The tables of the product, as a schema lists them, and the rows that they hold.
-use Rattle.std.specs.Prelude.{◌≡◌, ◌&&◌, ◌==◌, if◌then◌else◌, ℕ, zero, suc, Bool, true, false, IsTrue, None, Some, Option, [], ◌∷◌, codes, List, map, drop, take, length, slice_get, pos}
+use Rattle.std.specs.Prelude.{◌≡◌, if◌then◌else◌, ℕ, zero, suc, Bool, true, false, None, Some, Option, [], ◌∷◌, codes, List, map, drop, length, slice_get, pos}
 use Rattle.std.specs.List.Sorted.{IsPermutation}
 use Rattle.sqlite.specs.declared.types.Value.{Value}
-use Rattle.sqlite.specs.declared.types.Value.TheVariants.{Null, Int, Text as Words}
+use Rattle.sqlite.specs.declared.types.Value.TheVariants.{Null, Int, Text as Words, Blob as Bytes}
 use Rattle.sqlite.specs.Order.{Row}
 use Rattle.sqlite.specs.Collation.TheVariants.{Binary}
 use Rattle.sqlite.specs.Table.{Table as AnyTable}
@@ -19,18 +19,19 @@ use Rattle.sqlite_schema.specs.declared.schema.Column.{Column}
 use Rattle.sqlite_schema.specs.declared.schema.Reference.{Reference}
 use Rattle.sqlite_schema.specs.declared.schema.Action.TheVariants.{NoAction}
 use Rattle.sqlite_schema.specs.Names.{table_named}
-use Rattle.sqlite_schema.specs.Rules.{kind_code, kind_of}
 use Rattle.sqlite_value.specs.Keys.{plain}
 use Rattle.sqlite_value.specs.declared.keys.Order.{Order}
+use Rattle.row_model.specs.declared.cell.Cell.{Cell}
+use Rattle.row_model.specs.declared.cell.Cell.TheVariants as cell
+use Rattle.row_model.specs.declared.row.Group.{Group}
+use Rattle.row_model.specs.declared.row.Group.TheVariants as group
 use Rattle.row_model.specs.declared.table.Table.{Table}
 use Rattle.row_model.specs.declared.table.Table.TheVariants.{Edition, Supervisor, Project, Student, Round, OldChoice, OldPlacement, Import, RoundAim, Choice, Placement}
+use Rattle.row_model.specs.Rows.{Cells}
 pub use Rattle.row_model.specs.Rows.{all_tables, same_table}
-use Rattle.tables.specs.declared.table.Group.{Group}
-use Rattle.tables.specs.declared.table.Group.TheVariants as group
 
 -- A table as it is declared: its name and its columns; the position of the column that is the rowid, if one is; its key,
--- columns that no two rows share, and references, all by columns counted from 1, with 0 for the rowid; and how many of
--- the first columns a removal names.
+-- columns that no two rows share, and references, all by columns counted from 1, with 0 for the rowid.
 pub record TableShape : Type 0 where
   pub name : List ℕ
   pub columns : List (List ℕ × Kind)
@@ -38,7 +39,6 @@ pub record TableShape : Type 0 where
   pub primary : List ℕ
   pub uniques : List (List ℕ)
   pub links : List (ℕ × List ℕ × List ℕ)
-  pub named : ℕ
 
 -- the texts of its statements
 pub record Sql : Type 0 where
@@ -50,11 +50,11 @@ pub record Sql : Type 0 where
 
 -- a table whose key is its first column, a text
 abbrev pub by_text : List ℕ → List (List ℕ × Kind) → List (ℕ × List ℕ × List ℕ) → TableShape
-by_text name columns links = record { name = name; columns = columns; key = None; primary = 1 ∷ []; uniques = (1 ∷ []) ∷ []; links = links; named = 1 }
+by_text name columns links = record { name = name; columns = columns; key = None; primary = 1 ∷ []; uniques = (1 ∷ []) ∷ []; links = links }
 
 -- one whose key is its first column, a number: the rowid
 abbrev pub by_rowid : List ℕ → List (List ℕ × Kind) → List (ℕ × List ℕ × List ℕ) → TableShape
-by_rowid name columns links = record { name = name; columns = columns; key = Some 0; primary = 0 ∷ []; uniques = []; links = links; named = 1 }
+by_rowid name columns links = record { name = name; columns = columns; key = Some 0; primary = 0 ∷ []; uniques = []; links = links }
 
 -- a table of choices: its key is a round, a student and a place
 abbrev pub choices : List ℕ → TableShape
@@ -65,7 +65,6 @@ choices name = record {
   primary = 1 ∷ 2 ∷ 3 ∷ [];
   uniques = (1 ∷ 2 ∷ 3 ∷ []) ∷ (1 ∷ 2 ∷ 4 ∷ []) ∷ [];
   links = (1, codes "round", codes "number") ∷ (2, codes "student", codes "code") ∷ (4, codes "project", codes "code") ∷ [];
-  named = 3;
 }
 
 -- a table of placements
@@ -301,46 +300,18 @@ cells table row = drop 1 (shown table row)
 abbrev pub HasRows : Database → AnyTable → List Row → Type 0
 HasRows db table rows = IsPermutation rows (map (cells table) (db.trees table.tree))
 
--- the values are of these kinds, one each
-abbrev pub are_of : List Kind → Row → Bool
-are_of [] [] = true
-are_of (kind ∷ kinds) (value ∷ row) = (kind_code kind == kind_code (kind_of value)) && are_of kinds row
-are_of [] (value ∷ row) = false
-are_of (kind ∷ kinds) [] = false
+-- the value of a cell
+abbrev pub value_of : Cell → Value
+value_of (cell.Text text) = Words text
+value_of (cell.Number n) = Int (pos n)
+value_of (cell.Bytes bytes) = Bytes bytes
 
--- the kinds of the columns of a table
-abbrev pub kinds_of : Table → List Kind
-kinds_of table = map (λ (told : List ℕ × Kind). told.1) (shape_of table).columns
+-- the columns of a row
+abbrev pub values : Cells → Row
+values row = map value_of row
 
--- the values may be a row of the table
-abbrev pub IsRowOf : Table → Row → Type 0
-IsRowOf table row = IsTrue (are_of (kinds_of table) row)
-
--- the values may be what a removal from the table names
-abbrev pub IsKeyOf : Table → Row → Type 0
-IsKeyOf table key = IsTrue (are_of (take (shape_of table).named (kinds_of table)) key)
-
--- Rows of a table that go together: those that share some columns, which stand after this many others; and the text that takes
--- them out.
-pub record Sharing : Type 0 where
-  pub table : Table
-  pub before : ℕ
-  pub shared : ℕ
-  pub removal : List ℕ
-
--- the groups, each listed once
-abbrev pub sharing : Group → Sharing
-sharing group.List = record { table = Choice; before = 0; shared = 2; removal = codes "DELETE FROM choice12 WHERE round = ?1 AND student = ?2" }
-sharing group.Placed = record { table = Placement; before = 1; shared = 1; removal = codes "DELETE FROM placement12 WHERE round = ?1" }
-
--- the kinds of the columns that they share
-abbrev pub kinds_shared : Group → List Kind
-kinds_shared rows = let s = sharing rows in take s.shared (drop s.before (kinds_of s.table))
-
--- the values may be what a removal of such a group names
-abbrev pub IsNamed : Group → Row → Type 0
-IsNamed rows key = IsTrue (are_of (kinds_shared rows) key)
-
--- the key of a row
-abbrev pub key_in : Table → Row → Row
-key_in table row = take (length (shape_of table).primary) row
+-- the text that takes the rows of a group out of their table
+abbrev pub removal : Group → List ℕ
+removal (group.Key table) = (sql_of table).delete
+removal group.List = codes "DELETE FROM choice12 WHERE round = ?1 AND student = ?2"
+removal group.Placed = codes "DELETE FROM placement12 WHERE round = ?1"

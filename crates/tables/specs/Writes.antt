@@ -9,7 +9,9 @@ use Rattle.sqlite.specs.Effect.{Database}
 use Rattle.sqlite_rules.specs.Action.{works}
 use Rattle.sqlite_schema.specs.Rules.{equal}
 use Rattle.sqlite_schema.specs.declared.schema.Keys.TheVariants.{Enforced}
-use Rattle.tables.specs.Table.{Place, Rules, Sql, Lists}
+use Rattle.row_model.specs.declared.row.Group.{Group}
+use Rattle.row_model.specs.Rows.{shared_by}
+use Rattle.tables.specs.Table.{Place, Rules, Sql, Lists, table_at}
 use Rattle.tables.specs.Keyed.{Stands}
 use Rattle.tables.specs.Inert.{IsActedOn}
 use Rattle.tables.specs.declared.statements.Entering.{Entering}
@@ -57,6 +59,10 @@ Adds table row old new = (place : Place) (rows : List Row) → Stands table plac
 -- the rows that pass this test are gone
 unfoldable pub Removes : (Place → AnyTable) → (Row → Bool) → Database → Database → Type 0
 Removes table goes = TransformsRows table (filter (λ row. not (goes row)))
+
+-- the rows of a group that have these values in the columns that they share are gone
+abbrev pub Leaves : Group → Row → Database → Database → Type 0
+Leaves group key = let s = shared_by group in Removes (table_at s.0) (goes_on s.1 key)
 
 -- each row with this key is replaced by the given one
 unfoldable pub Puts : (Place → AnyTable) → Row → Row → Database → Database → Type 0

@@ -1,5 +1,5 @@
-//! The SQL of the product: what describes each table, a function for each statement over any of them, and one that takes a
-//! list away, or the placements of a round.
+//! The SQL of the product: what describes each table, and a function for each statement over any of them. A cell is given as
+//! the database's value.
 //!
 //! Nothing here knows an office. `store`, one crate above, says what the rows mean, and puts the
 //! statements together into transactions. Each function here makes one call of the database, or two,
@@ -26,4 +26,4 @@ mod table;
 mod write;
 
 pub use row_model::Table;
-pub use table::{Group, width};
+pub use table::width;

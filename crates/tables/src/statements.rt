@@ -1,22 +1,21 @@
 //! The statements, each over any table.
 
-ghost use Rattle.std.specs.Prelude.{◌≡◌, [], IfOk, IfErr, false};
+ghost use Rattle.std.specs.Prelude.{◌≡◌, [], IfOk, IfErr, false, true};
 ghost use Rattle.sqlite.specs.State.{HasCleanDisk, Survives};
-ghost use Rattle.sqlite.specs.Values.{bound};
 ghost use Rattle.sqlite.specs.Held.{state};
 ghost use Rattle.tables.specs.declared.fault.TableFault.TheVariants.{Storage};
 ghost use Rattle.tables.specs.Causes.{FailsToRead, FailsToWrite, IsCaused, IsCausedInside, IsHindered, IsRunInside, IsToldInside, IsUnread, Went};
-ghost use Rattle.tables.specs.Table.{IsKeyOf, IsNamed, IsRowOf, key_in, rules_of, sharing, sql_of, table_at};
-ghost use Rattle.tables.specs.Writes.{Creates, Enters, Removes, begins_with, entering, goes_on};
+ghost use Rattle.row_model.specs.Rows.{are_of, key_in, kinds_of, shared_kinds};
+ghost use Rattle.tables.specs.Table.{removal, rules_of, sql_of, table_at, values};
+ghost use Rattle.tables.specs.Writes.{Creates, Enters, Leaves, entering};
 ghost use Rattle.tables.specs.Steps.{Does, HasStepped, Rests, Shows};
 
 use crate::fault::{TableFault, Wrote};
 use crate::read::read_text;
-use crate::table::{Group, Shaped};
+use crate::table::{Shaped, removal};
 use crate::write::write;
-use row_model::Table;
+use row_model::{Cell, Group, Table};
 use sqlite::{Alter, Connection, Row, Transaction};
-use sqlite_value::value::ValueRef;
 
 /// Creates the table: a STRICT one, whose references name their columns, with its CHECK rules.
 pub fn make<S: Alter>(tx: &mut Transaction<'_, S>, table: Table) -> Wrote
@@ -51,55 +50,37 @@ impl Entering {
     }
 }
 
-/// Brings a row into its table. In the place of none nothing changes.
+/// Brings the row of these cells into its table. In the place of none nothing changes.
 pub fn enter<S: Alter>(
     tx: &mut Transaction<'_, S>,
     way: Entering,
     table: Table,
-    row: &[ValueRef<'_>],
+    cells: &[Cell],
 ) -> Wrote
-    requires { IsRowOf table (bound row.now) }
+    requires { are_of (kinds_of table) cells.now ≡ true }
 
     ensures same_reference { tx.new.conn.ghost_name ≡ tx.old.conn.ghost_name }
-    ensures step { Does (HasStepped (Enters way (table_at table) (key_in table (bound row.now)) (bound row.now))) result (state S.Store tx.old.conn.now) (state S.Store tx.new.conn.now) }
-    ensures ran { IsRunInside (Went (entering way (sql_of table)) (bound row.now)) result (state S.Store tx.old.conn.now) (state S.Store tx.new.conn.now) }
-    ensures told { IsToldInside (FailsToWrite (entering way (sql_of table)) (bound row.now)) result (state S.Store tx.old.conn.now) (state S.Store tx.new.conn.now) }
-    ensures cause { IsCausedInside (IsHindered (entering way (sql_of table)) (bound row.now)) result (state S.Store tx.old.conn.now) (state S.Store tx.new.conn.now) }
+    ensures step { Does (HasStepped (Enters way (table_at table) (values (key_in table cells.now)) (values cells.now))) result (state S.Store tx.old.conn.now) (state S.Store tx.new.conn.now) }
+    ensures ran { IsRunInside (Went (entering way (sql_of table)) (values cells.now)) result (state S.Store tx.old.conn.now) (state S.Store tx.new.conn.now) }
+    ensures told { IsToldInside (FailsToWrite (entering way (sql_of table)) (values cells.now)) result (state S.Store tx.old.conn.now) (state S.Store tx.new.conn.now) }
+    ensures cause { IsCausedInside (IsHindered (entering way (sql_of table)) (values cells.now)) result (state S.Store tx.old.conn.now) (state S.Store tx.new.conn.now) }
 {
-    write(tx, way.text(table), row)?;
+    write(tx, way.text(table), cells)?;
     Ok(())
 }
 
-/// Takes the rows away that begin with these values.
-pub fn delete<S: Alter>(tx: &mut Transaction<'_, S>, table: Table, key: &[ValueRef<'_>]) -> Wrote
-    requires { IsKeyOf table (bound key.now) }
+/// Takes the rows of a group away: those that have these cells in the columns that they share.
+pub fn leave<S: Alter>(tx: &mut Transaction<'_, S>, group: Group, cells: &[Cell]) -> Wrote
+    requires { are_of (shared_kinds group) cells.now ≡ true }
 
     ensures same_reference { tx.new.conn.ghost_name ≡ tx.old.conn.ghost_name }
-    ensures step { Does (HasStepped (Removes (table_at table) (begins_with (bound key.now)))) result (state S.Store tx.old.conn.now) (state S.Store tx.new.conn.now) }
-    ensures ran { IsRunInside (Went (sql_of table).delete (bound key.now)) result (state S.Store tx.old.conn.now) (state S.Store tx.new.conn.now) }
-    ensures told { IsToldInside (FailsToWrite (sql_of table).delete (bound key.now)) result (state S.Store tx.old.conn.now) (state S.Store tx.new.conn.now) }
-    ensures cause { IsCausedInside (IsHindered (sql_of table).delete (bound key.now)) result (state S.Store tx.old.conn.now) (state S.Store tx.new.conn.now) }
+    ensures step { Does (HasStepped (Leaves group (values cells.now))) result (state S.Store tx.old.conn.now) (state S.Store tx.new.conn.now) }
+    ensures ran { IsRunInside (Went (removal group) (values cells.now)) result (state S.Store tx.old.conn.now) (state S.Store tx.new.conn.now) }
+    ensures told { IsToldInside (FailsToWrite (removal group) (values cells.now)) result (state S.Store tx.old.conn.now) (state S.Store tx.new.conn.now) }
+    ensures cause { IsCausedInside (IsHindered (removal group) (values cells.now)) result (state S.Store tx.old.conn.now) (state S.Store tx.new.conn.now) }
 {
     // How many went does not matter: it is as well if there was none.
-    write(tx, table.shape().delete, key)?;
-    Ok(())
-}
-
-/// Takes the rows of a group away: those that have these values in the columns that they share.
-pub fn delete_group<S: Alter>(
-    tx: &mut Transaction<'_, S>,
-    group: Group,
-    key: &[ValueRef<'_>],
-) -> Wrote
-    requires { IsNamed group (bound key.now) }
-
-    ensures same_reference { tx.new.conn.ghost_name ≡ tx.old.conn.ghost_name }
-    ensures step { Does (HasStepped (let rows = sharing group in Removes (table_at rows.table) (goes_on rows.before (bound key.now)))) result (state S.Store tx.old.conn.now) (state S.Store tx.new.conn.now) }
-    ensures ran { IsRunInside (Went (sharing group).removal (bound key.now)) result (state S.Store tx.old.conn.now) (state S.Store tx.new.conn.now) }
-    ensures told { IsToldInside (FailsToWrite (sharing group).removal (bound key.now)) result (state S.Store tx.old.conn.now) (state S.Store tx.new.conn.now) }
-    ensures cause { IsCausedInside (IsHindered (sharing group).removal (bound key.now)) result (state S.Store tx.old.conn.now) (state S.Store tx.new.conn.now) }
-{
-    write(tx, group.removal(), key)?;
+    write(tx, removal(group), cells)?;
     Ok(())
 }
 

@@ -1,10 +1,11 @@
 //! The tables as SQL has them: columns, keys, references, and the texts of their statements.
 
 ghost use Rattle.std.specs.Prelude.{◌≡◌, length};
-ghost use Rattle.tables.specs.Table.{Sharing, kinds_of, shape_of, sharing, sql_of};
+ghost use Rattle.row_model.specs.Rows.{kinds_of};
+ghost use Rattle.tables.specs.Table.{removal, shape_of, sql_of};
 ghost use Rattle.tables.specs.Inside.Table.{texts_by, told_by};
 
-use row_model::Table;
+use row_model::{Group, Table};
 use sqlite_schema::schema::Kind;
 
 /// A column of a table, by its name and its kind: NOT NULL, with no default.
@@ -73,8 +74,6 @@ pub(crate) struct Keys {
     pub primary: &'static [usize],
     /// Columns that no two rows share, the key among them unless it is the rowid.
     pub uniques: &'static [&'static [usize]],
-    /// How many of the first columns a removal names.
-    pub named: usize,
 }
 
 /// The first column is the key, a text.
@@ -82,7 +81,6 @@ const BY_TEXT: Keys = Keys {
     rowid: None,
     primary: &[1],
     uniques: &[&[1]],
-    named: 1,
 };
 
 // In SQLite `INTEGER PRIMARY KEY` names the rowid itself: there is no further index, so no unique columns are listed.
@@ -91,7 +89,6 @@ const BY_ROWID: Keys = Keys {
     rowid: Some(0),
     primary: &[0],
     uniques: &[],
-    named: 1,
 };
 
 /// The first three columns are the key: a round, a student and a place. No two rows share a round, a student and a project.
@@ -99,7 +96,6 @@ const BY_PLACE: Keys = Keys {
     rowid: None,
     primary: &[1, 2, 3],
     uniques: &[&[1, 2, 3], &[1, 2, 4]],
-    named: 3,
 };
 
 /// The columns of a choice, and to which tables they refer.
@@ -189,25 +185,15 @@ mod rows {
         delete: "DELETE FROM placement12 WHERE student = ?1", select: "SELECT rowid, * FROM placement12" };
 }
 
-/// Rows of a table that go together: those that share some columns.
-#[derive(Clone, Copy)]
-pub enum Group {
-    /// The choices of a round and a student: a list.
-    List,
-    /// The placements of a round.
-    Placed,
-}
-
-impl Group {
-    /// Returns the text that takes such rows out of their table.
-    pub(crate) fn removal(self) -> &'static str
-        ensures { result.now ≡ (sharing self).removal }
-    {
-        // Of the latest edition alone: rows of the earlier tables are taken out one by one, by their keys, when these are migrated.
-        match self {
-            Group::List => "DELETE FROM choice12 WHERE round = ?1 AND student = ?2",
-            Group::Placed => "DELETE FROM placement12 WHERE round = ?1",
-        }
+/// Returns the text that takes the rows of a group out of their table.
+pub(crate) fn removal(group: Group) -> &'static str
+    ensures { result.now ≡ removal group }
+{
+    // Of the latest edition alone: rows of the earlier tables are taken out one by one, by their keys, when these are migrated.
+    match group {
+        Group::Key(table) => table.shape().delete,
+        Group::List => "DELETE FROM choice12 WHERE round = ?1 AND student = ?2",
+        Group::Placed => "DELETE FROM placement12 WHERE round = ?1",
     }
 }
 
@@ -215,7 +201,7 @@ impl Group {
 pub fn width(table: Table) -> usize
     ensures { result ≡ length (kinds_of table) }
 {
-    table.shape().columns.len()
+    table.kinds().len()
 }
 
 // A trait, since `Table` is of `row_model`, which knows no SQL.

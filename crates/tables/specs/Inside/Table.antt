@@ -28,7 +28,6 @@ told_by given = record {
   primary = given.keys.primary.now;
   uniques = map places_by given.keys.uniques.now;
   links = map link_by given.links.now;
-  named = given.keys.named;
 }
 
 -- and of its statements

@@ -7,7 +7,7 @@ use Rattle.store.proofs.NewTables.{created}
 use Rattle.store.proofs.creating.make_tables.Goals as goal
 
 pub returns-clause-step : goal.returns-clause-step
-returns-clause-step g c = part_then _ _ _ _ _ _ _ _ (λ _ p q. created _ refl _ _ _ p q) c.in_ok-make_each.ensures.step (rw (c.params-to_sql.ensures, c.params-to_sql-2.ensures, c.number_of.ensures) at c.enter.ensures.step)
+returns-clause-step g c = part_then _ _ _ _ _ _ _ _ (λ _ p q. created _ refl _ _ _ p q) c.in_ok-make_each.ensures.step (rw c.number_of.ensures at c.enter.ensures.step)
 
 pub returns-clause-starved : goal.returns-clause-starved
 returns-clause-starved g c clean inside h =

@@ -1,41 +1,41 @@
 use Rattle.tables.proofs.Runs.{part_as, stepped_as}
 use Rattle.tables.specs.declared.statements.Entering.TheVariants.{InPlace, New}
 use Rattle.store.proofs.Held.{hold_enter, hold_leave}
-use Rattle.store.proofs.SqlKinds.{is_part, is_row}
+use Rattle.std.specs.Cmp.{second_so}
 use Rattle.store.proofs.saving.apply.Goals as goal
 
 pub returns-in-Put-clause-step : goal.returns-in-Put-clause-step
-returns-in-Put-clause-step g c = rw c.in-Put.is (part_as _ _ _ _ _ (λ _ p. stepped_as _ _ _ _ (hold_enter InPlace _ _ _ c.cells.ensures.row) p) (rw (c.table.ensures, c.cells.ensures.cells) at c.enter_cells.ensures.step))
+returns-in-Put-clause-step g c = rw c.in-Put.is (part_as _ _ _ _ _ (λ _ p. stepped_as _ _ _ _ (hold_enter InPlace _ _ _ c.cells.ensures.row) p) (rw (c.table.ensures, c.cells.ensures.cells) at c.enter.ensures.step))
 
 pub returns-in-Add-clause-step : goal.returns-in-Add-clause-step
-returns-in-Add-clause-step g c = rw c.in-Add.is (part_as _ _ _ _ _ (λ _ p. stepped_as _ _ _ _ (hold_enter New _ _ _ c.cells-in-Add.ensures.row) p) (rw (c.table-in-Add.ensures, c.cells-in-Add.ensures.cells) at c.enter_cells-in-Add.ensures.step))
+returns-in-Add-clause-step g c = rw c.in-Add.is (part_as _ _ _ _ _ (λ _ p. stepped_as _ _ _ _ (hold_enter New _ _ _ c.cells-in-Add.ensures.row) p) (rw (c.table-in-Add.ensures, c.cells-in-Add.ensures.cells) at c.enter-in-Add.ensures.step))
 
 pub returns-in-Remove-clause-step : goal.returns-in-Remove-clause-step
-returns-in-Remove-clause-step g c = rw c.in-Remove.is (part_as _ _ _ _ _ (λ _ p. stepped_as _ _ _ _ (hold_leave _ _ _ c.cells-in-Remove.ensures.part) p) (rw (c.group.ensures, c.cells-in-Remove.ensures.cells) at c.leave_cells.ensures.step))
+returns-in-Remove-clause-step g c = rw c.in-Remove.is (part_as _ _ _ _ _ (λ _ p. stepped_as _ _ _ _ (hold_leave _ _ _ c.cells-in-Remove.ensures.part) p) (rw (c.group.ensures, c.cells-in-Remove.ensures.cells) at c.leave.ensures.step))
 
-pub enter_cells-requires : goal.enter_cells-requires
-enter_cells-requires g c = rw (c.table.ensures, c.cells.ensures.cells) (is_row _ c.cells.ensures.row)
+pub enter-requires : goal.enter-requires
+enter-requires g c = rw (c.table.ensures, c.cells.ensures.cells) (second_so _ _ c.cells.ensures.row)
 
-pub enter_cells-requires-in-Add : goal.enter_cells-requires-in-Add
-enter_cells-requires-in-Add g c = rw (c.table-in-Add.ensures, c.cells-in-Add.ensures.cells) (is_row _ c.cells-in-Add.ensures.row)
+pub enter-requires-in-Add : goal.enter-requires-in-Add
+enter-requires-in-Add g c = rw (c.table-in-Add.ensures, c.cells-in-Add.ensures.cells) (second_so _ _ c.cells-in-Add.ensures.row)
 
-pub leave_cells-requires : goal.leave_cells-requires
-leave_cells-requires g c = rw (c.group.ensures, c.cells-in-Remove.ensures.cells) (is_part _ c.cells-in-Remove.ensures.part)
+pub leave-requires : goal.leave-requires
+leave-requires g c = rw (c.group.ensures, c.cells-in-Remove.ensures.cells) (second_so _ _ c.cells-in-Remove.ensures.part)
 
 pub returns-in-Put-clause-ran : goal.returns-in-Put-clause-ran
-returns-in-Put-clause-ran g c = rw c.in-Put.is (rw (c.table.ensures, c.cells.ensures.cells) at c.enter_cells.ensures.ran)
+returns-in-Put-clause-ran g c = rw c.in-Put.is (rw (c.table.ensures, c.cells.ensures.cells) at c.enter.ensures.ran)
 
 pub returns-in-Put-clause-cause : goal.returns-in-Put-clause-cause
-returns-in-Put-clause-cause g c = rw c.in-Put.is (rw (c.table.ensures, c.cells.ensures.cells) at c.enter_cells.ensures.cause)
+returns-in-Put-clause-cause g c = rw c.in-Put.is (rw (c.table.ensures, c.cells.ensures.cells) at c.enter.ensures.cause)
 
 pub returns-in-Add-clause-ran : goal.returns-in-Add-clause-ran
-returns-in-Add-clause-ran g c = rw c.in-Add.is (rw (c.table-in-Add.ensures, c.cells-in-Add.ensures.cells) at c.enter_cells-in-Add.ensures.ran)
+returns-in-Add-clause-ran g c = rw c.in-Add.is (rw (c.table-in-Add.ensures, c.cells-in-Add.ensures.cells) at c.enter-in-Add.ensures.ran)
 
 pub returns-in-Add-clause-told : goal.returns-in-Add-clause-told
-returns-in-Add-clause-told g c = rw c.in-Add.is (rw (c.table-in-Add.ensures, c.cells-in-Add.ensures.cells) at c.enter_cells-in-Add.ensures.told)
+returns-in-Add-clause-told g c = rw c.in-Add.is (rw (c.table-in-Add.ensures, c.cells-in-Add.ensures.cells) at c.enter-in-Add.ensures.told)
 
 pub returns-in-Add-clause-cause : goal.returns-in-Add-clause-cause
-returns-in-Add-clause-cause g c = rw c.in-Add.is (rw (c.table-in-Add.ensures, c.cells-in-Add.ensures.cells) at c.enter_cells-in-Add.ensures.cause)
+returns-in-Add-clause-cause g c = rw c.in-Add.is (rw (c.table-in-Add.ensures, c.cells-in-Add.ensures.cells) at c.enter-in-Add.ensures.cause)
 
 pub returns-in-Remove-clause-ran : goal.returns-in-Remove-clause-ran
-returns-in-Remove-clause-ran g c = rw c.in-Remove.is (rw (c.group.ensures, c.cells-in-Remove.ensures.cells) at c.leave_cells.ensures.ran)
+returns-in-Remove-clause-ran g c = rw c.in-Remove.is (rw (c.group.ensures, c.cells-in-Remove.ensures.cells) at c.leave.ensures.ran)

@@ -2,7 +2,11 @@ use Rattle.std.proofs.Common.{rules}
 use Rattle.tables.proofs.Causes.{stopped_by}
 use Rattle.tables.proofs.Runs.{part_ok}
 use Rattle.tables.proofs.Told.{entered, went_entering}
+use Rattle.tables.proofs.Widths.{narrow_row}
 use Rattle.tables.proofs.statements.enter.Goals as goal
+
+pub write-requires : goal.write-requires
+write-requires g c = narrow_row c.args.table c.args.cells.now c.requires
 
 pub returns-clause-step : goal.returns-clause-step
 returns-clause-step g c = part_ok _ _ _ _ _ _ (entered c.args.table _ c.requires _ _ _ c.args.way _ c.text.ensures) c.in_ok-write.ensures.step

@@ -11,7 +11,7 @@ returns-in-Ok-clause-step g c = record {
   survives = search rules;
   did = λ clean. elim (cases_Bool (state g.S.Store c.args.tx.now.conn.now).in_transaction) [
     | inl inside ↦
-        let ran = rw c.in-Ok.is at (c.execute.ensures.runs clean inside) in
+        let ran = rw (c.in-Ok.is, c.values.ensures.values) at (c.execute.ensures.runs clean inside) in
         record { inside = inside; shown = ran.1; ran = ran.0 }
     | inr outside ↦ let e = (c.execute.ensures.ended outside).0 in absurd (let f = c.in-Ok.is in cc)
   ];
@@ -24,7 +24,7 @@ returns-in-Err-clause-step g c = record { survives = search rules; did = λ clea
 pub returns-in-Err-clause-cause : goal.returns-in-Err-clause-cause
 returns-in-Err-clause-cause g c inside clean h =
     let other : fault_of c.in-Err.error ≡ Storage = let told = c.from.ensures in cc in
-    stopped _ _ _ _ _ other (rw c.in-Err.is at (c.execute.ensures.runs clean inside))
+    stopped _ _ _ _ _ other (rw (c.in-Err.is, c.values.ensures.values) at (c.execute.ensures.runs clean inside))
 
 pub returns-in-Err-clause-told : goal.returns-in-Err-clause-told
 returns-in-Err-clause-told g c = search rules

@@ -1,5 +1,5 @@
 use Rattle.std.proofs.Common.{rules}
-use Rattle.tables.proofs.table.Group.removal.Goals as goal
+use Rattle.tables.proofs.table.removal.Goals as goal
 
 pub returns-in-List : goal.returns-in-List
 returns-in-List c = search rules

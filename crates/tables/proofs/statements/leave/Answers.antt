@@ -1,0 +1,18 @@
+use Rattle.std.proofs.Common.{rules}
+use Rattle.tables.proofs.Runs.{part_ok}
+use Rattle.tables.proofs.Told.{left, went_leaving}
+use Rattle.tables.proofs.Causes.{stopped_by}
+use Rattle.tables.proofs.Widths.{narrow_part}
+use Rattle.tables.proofs.statements.leave.Goals as goal
+
+pub write-requires : goal.write-requires
+write-requires g c = narrow_part c.args.group c.args.cells.now c.requires
+
+pub returns-clause-step : goal.returns-clause-step
+returns-clause-step g c = part_ok _ _ _ _ _ _ (left c.args.group _ c.removal.ensures _ _ _ _ c.requires) c.in_ok-write.ensures.step
+
+pub returns-in_err-write-clause-cause : goal.returns-in_err-write-clause-cause
+returns-in_err-write-clause-cause g c inside clean h = stopped_by _ _ (λ sql. sql) _ _ _ c.removal.ensures (c.write.ensures.cause inside clean (search rules))
+
+pub returns-clause-ran : goal.returns-clause-ran
+returns-clause-ran g c clean = went_leaving c.args.group _ c.removal.ensures _ _ _ _ c.requires (c.in_ok-write.ensures.step.did clean)

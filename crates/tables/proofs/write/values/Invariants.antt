@@ -1,0 +1,7 @@
+use Rattle.std.proofs.Common.{◌≡◌, length, take}
+use Rattle.sqlite.specs.Values.{bound}
+use Rattle.tables.specs.Table.{values as sql_values}
+use Rattle.tables.proofs.write.values.Given as goal
+
+abbrev pub invariant-loop-at : goal.invariant-loop-at
+invariant-loop-at l = (length l.values ≡ 4) × (bound (take l.at l.values) ≡ sql_values (take l.at l.cells))
