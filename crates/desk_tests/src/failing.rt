@@ -1,6 +1,6 @@
 //! A database over files, one of which fails from some call on: what is answered, and what is found in the files afterwards.
 
-use crate::files::{Before, Bytes, Deed, Kept, Row, bytes_of, do_in, filled, kept_in};
+use crate::files::{ALL, Before, Bytes, Deed, Kept, Row, bytes_of, do_in, empty, filled, kept_in};
 use sqlite_disk::{Crash, Disk, Fuse, Memory};
 use std::alloc::Global;
 use std::rt::HostRuntime;
@@ -55,6 +55,15 @@ static CLOSED_ROWS: [Row; 2] = [
      r#"GET /rounds/2 || 200 OK | {"aim":"generous","open":true,"placed":0,"profile":[0,0,0,0^,],"round":2,"students":1}"#),
 ];
 
+/// The same of a file whose calls are all used up when Ann was put: she is read from the office, Bob is refused by the tables, and nobody
+/// hears of him.
+#[rattlefmt::skip]
+const LAST_ROW: Row = (1_000, Before::Nothing,
+    r#"PUT /students/S1 | {"name":"Ann"} | 200 OK                  | {"ok":true}"#,
+    r#"GET /students/S1 |                | 200 OK                  | {"list":null,"name":"Ann","placed":null}
+       PUT /students/S2 | {"name":"Bob"} | 503 Service Unavailable | {"fault":"Storage","number":2}
+       GET /students/S2 |                | 404 Not Found           | {"fault":"UnknownStudent","number":15}"#);
+
 /// Whether these are the same bytes.
 fn are_same(bytes: &Bytes, other: &Bytes) -> bool {
     bytes.log.as_slice() == other.log.as_slice() && bytes.db.as_slice() == other.db.as_slice()
@@ -97,7 +106,7 @@ fn find(alloc: Global, bytes: &Bytes, start: &Start, is_made: bool) -> Result<()
 /// Asks the request of a row where the files pass this many calls; what came of it is found in them as they stand, and as a crash leaves
 /// them. Whether calls are left. Files that are not opened are looked at in the rows without a request.
 fn run(alloc: Global, start: &Start, row: Row, calls: (u64, u64)) -> Result<bool, Fail> {
-    let (came, mut files) = do_in(alloc, &start.bytes, calls, row.0, Deed::Ask(row))?;
+    let (came, mut files) = do_in(alloc, &start.bytes, calls, row.0, Deed::Ask(row, false))?;
     let is_made = match came {
         Some(came) => came.is_made,
         None if !row.2.is_empty() => return Ok(false),
@@ -161,4 +170,18 @@ fn failing_files_of_earlier_editions_are_migrated_or_stay(rt: HostRuntime) -> Re
 #[test]
 fn rounds_close_over_failing_files_of_earlier_editions(rt: HostRuntime) -> Result<(), Fail> {
     sweep_rows(rt.alloc(), CLOSED_ROWS.as_slice())
+}
+
+// The fewest calls with which the put of Ann is made leave none for what comes after.
+#[test]
+fn a_database_that_fails_after_a_put_still_answers(rt: HostRuntime) -> Result<(), Fail> {
+    let bytes = empty(rt.alloc());
+    for calls in 0..1_000 {
+        let deed = Deed::Ask(LAST_ROW, true);
+        let (came, _files) = do_in(rt.alloc(), &bytes, (calls, ALL.1), LAST_ROW.0, deed)?;
+        if came.is_some_and(|came| came.is_made) {
+            return Ok(());
+        }
+    }
+    holds(false, "the put is made with enough calls")
 }

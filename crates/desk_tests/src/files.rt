@@ -5,7 +5,6 @@
 ghost use Rattle.std.specs.Prelude.{IfOk, IsTrue};
 ghost use Rattle.sqlite_disk.specs.Memory.{memory_is_usable};
 
-use crate::disks::is_put_over;
 use desk::Desk;
 use rolls::Refusal;
 use sqlite::{Alter, Connection, Files, Options};
@@ -62,10 +61,8 @@ pub(crate) enum Deed {
     Fill(Before),
     /// Its tables are looked at, opened, and looked at once more after these lines.
     Keep(&'static str),
-    /// The request of a row is asked.
-    Ask(Row),
-    /// Ann is put.
-    Put,
+    /// The request of a row is asked, or it is asked just once.
+    Ask(Row, bool),
 }
 
 /// What came of it: whether the request was made, and what the tables stored.
@@ -85,7 +82,7 @@ impl Came {
 }
 
 /// Returns a file in memory that holds these bytes.
-fn file_of(alloc: Global, bytes: &[u8]) -> Result<Memory, Fail>
+pub(crate) fn file_of(alloc: Global, bytes: &[u8]) -> Result<Memory, Fail>
     ensures { IfOk result (λ file. IsTrue (memory_is_usable file)) }
 {
     let mut file = Memory::new(alloc);
@@ -153,12 +150,8 @@ fn do_over<S: Alter + Drop>(
                 connection,
             ))
         }
-        Deed::Ask(row) => {
-            let (is_made, connection) = is_made_over(alloc, connection, row)?;
-            Ok((Came::asked(is_made), connection))
-        }
-        Deed::Put => {
-            let (is_made, connection) = is_put_over(alloc, connection)?;
+        Deed::Ask(row, is_once) => {
+            let (is_made, connection) = is_made_over(alloc, connection, row, is_once)?;
             Ok((Came::asked(is_made), connection))
         }
     }
@@ -180,12 +173,24 @@ fn is_made_once<S: Alter>(alloc: Global, desk: &mut Desk<S>, line: &str) -> Resu
     Ok(is_made)
 }
 
-/// Asks the request of a row, if it has one, and once more where it was refused, which changed nothing. Whether it was made.
-fn is_made<S: Alter>(alloc: Global, desk: &mut Desk<S>, row: Row) -> Result<bool, Fail> {
-    if row.2.is_empty() || is_made_once(alloc, desk, row.2)? {
+/// Asks the request of a row, if it has one, and once more where it was refused, which changed nothing. Where it is asked just once, what
+/// is read then is asked after it was made. Whether it was made.
+fn is_made<S: Alter>(
+    alloc: Global,
+    desk: &mut Desk<S>,
+    row: Row,
+    is_once: bool,
+) -> Result<bool, Fail> {
+    if row.2.is_empty() {
         return Ok(true);
     }
-    play_lines(alloc, desk, row.3)?;
+    let is_made = is_made_once(alloc, desk, row.2)?;
+    if is_made == is_once {
+        play_lines(alloc, desk, row.3)?;
+    }
+    if is_made || is_once {
+        return Ok(is_made);
+    }
     is_made_once(alloc, desk, row.2)
 }
 
@@ -194,10 +199,11 @@ fn is_made_over<S: Alter + Drop>(
     alloc: Global,
     connection: Connection<S>,
     row: Row,
+    is_once: bool,
 ) -> Result<(bool, Connection<S>), Fail> {
     match Desk::open(alloc, connection) {
         Ok(mut desk) => {
-            let is_made = is_made(alloc, &mut desk, row);
+            let is_made = is_made(alloc, &mut desk, row, is_once);
             let connection = desk.into_connection();
             Ok((is_made?, connection))
         }

@@ -8,14 +8,7 @@ use std::alloc::Global;
 use std::rt::HostRuntime;
 use std::test::Fail;
 use store::Store;
-
-/// Returns the request that puts a student.
-fn put_student(alloc: Global) -> Result<Plain, Fail> {
-    Ok(Plain::PutStudent {
-        code: Text::of(alloc, "S1")?,
-        label: Text::of(alloc, "Ann")?,
-    })
-}
+use test_support::opened::put_student;
 
 /// Returns the request that takes the student's list away.
 fn drop_list(alloc: Global) -> Result<Plain, Fail> {
@@ -42,7 +35,7 @@ fn has_student(office: &Office) -> bool {
 
 /// Applies the put, and then a request that is refused and changes nothing.
 fn applied(alloc: Global, office: &mut Office) -> Result<Done, Fail> {
-    let put = office.apply(put_student(alloc)?);
+    let put = office.apply(put_student(alloc, "S1", "Ann")?);
     holds(is_put(&put), "a put")?;
     let refused = matches!(office.apply(drop_list(alloc)?), Err(Refusal::NoRoundOpen));
     holds(refused && has_student(office), "a refused request")?;

@@ -1,7 +1,7 @@
 //! Files of rows: offices in memory, each with its steps. `docs/TESTS.md` says how they are written.
 
 use crate::hand_made::judge_rows;
-use crate::played::{filled, numbered, otherwise, play_lines, play_twice};
+use crate::played::{answer_of, filled, messages_of, numbered, otherwise, play_lines, play_twice};
 use crate::school::{FIRST_EDITION, LISTED, SCHOOL};
 use desk::Desk;
 use rows::cells::first_cell;
@@ -59,7 +59,7 @@ fn fill(alloc: Global, cells: &str) -> Result<String, Fail> {
 }
 
 /// Returns the requests that a row stands for.
-fn plain(alloc: Global, texts: &str, row: &str) -> Result<String, Fail> {
+pub fn plain(alloc: Global, texts: &str, row: &str) -> Result<String, Fail> {
     let (word, cells) = row.split_once(' ').unwrap_or((row, ""));
     match word {
         "play" => script(alloc, texts, cells),
@@ -67,6 +67,20 @@ fn plain(alloc: Global, texts: &str, row: &str) -> Result<String, Fail> {
         "fill" => fill(alloc, cells),
         _ => Ok(String::from_str(alloc, row)?),
     }
+}
+
+/// Returns the messages of the requests that rows stand for, one after another, and their answers.
+pub fn exchanged(alloc: Global, texts: &str, rows: &str) -> Result<(Vec<u8>, Vec<u8>), Fail> {
+    let mut lines = String::new(alloc);
+    for row in rows.lines() {
+        lines.push_str(plain(alloc, texts, row)?.trim_end())?;
+        lines.push_str("\n")?;
+    }
+    let mut answers = Vec::new(alloc);
+    for line in lines.lines() {
+        answers.extend_from_slice(&answer_of(alloc, line)?)?;
+    }
+    Ok((messages_of(alloc, &lines)?, answers))
 }
 
 /// Plays a row. How many requests were compared.

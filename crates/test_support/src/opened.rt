@@ -1,7 +1,7 @@
 //! Desks that are opened for a test, and a first request.
 
 use desk::Desk;
-use rolls::{Plain, Request, Text};
+use rolls::{Plain, Text};
 use sqlite::{Alter, Connection};
 use std::alloc::Global;
 use std::test::Fail;
@@ -18,8 +18,8 @@ pub fn desk_over<S: Alter + Drop>(
 }
 
 /// Returns the request that puts a student.
-pub fn put_student(alloc: Global, code: &str, label: &str) -> Result<Request, Fail> {
+pub fn put_student(alloc: Global, code: &str, label: &str) -> Result<Plain, Fail> {
     let code = Text::of(alloc, code)?;
     let label = Text::of(alloc, label)?;
-    Ok(Request::Plain(Plain::PutStudent { code, label }))
+    Ok(Plain::PutStudent { code, label })
 }

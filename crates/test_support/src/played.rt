@@ -64,11 +64,14 @@ fn message(alloc: Global, asked: &str, body: &str) -> Result<Vec<u8>, AllocError
     framed(alloc, &format!(in alloc; "{asked} HTTP/1.1")?, body)
 }
 
-/// Returns the message of a line.
+/// Returns the message of a line; after `raw` it stands as it is sent.
 fn message_of(alloc: Global, line: &str) -> Result<Vec<u8>, AllocError> {
     let (asked, rest) = first_cell(line);
     let (body, _answer) = first_cell(rest);
-    message(alloc, asked, body)
+    match asked.strip_prefix("raw ") {
+        Some(sent) => body_of(alloc, sent),
+        None => message(alloc, asked, body),
+    }
 }
 
 /// Returns the messages of lines, one after another.
@@ -80,30 +83,26 @@ pub fn messages_of(alloc: Global, lines: &str) -> Result<Vec<u8>, AllocError> {
     Ok(bytes)
 }
 
-/// Returns the answer with this status and body, which is JSON where it begins with a brace, and else a text.
-pub fn answer(alloc: Global, status: &str, body: &str) -> Result<Vec<u8>, AllocError> {
-    let kind = if body.starts_with('{') {
-        "application/json"
-    } else {
-        "text/plain; charset=utf-8"
-    };
-    framed(
-        alloc,
-        &format!(in alloc; "HTTP/1.1 {status}\r\nContent-Type: {kind}")?,
-        body,
-    )
-}
-
-/// Returns the answer of a line.
+/// Returns the answer of a line, whose body is JSON where it begins with a brace, and else a text; without a status there is none.
 pub fn answer_of(alloc: Global, line: &str) -> Result<Vec<u8>, AllocError> {
     let (_asked, rest) = first_cell(line);
     let (_body, rest) = first_cell(rest);
     let (status, told) = first_cell(rest);
-    answer(alloc, status, told.trim())
+    let told = told.trim();
+    let kind = if told.starts_with('{') {
+        "application/json"
+    } else {
+        "text/plain; charset=utf-8"
+    };
+    if status.is_empty() {
+        return Ok(Vec::new(alloc));
+    }
+    let head = format!(in alloc; "HTTP/1.1 {status}\r\nContent-Type: {kind}")?;
+    framed(alloc, &head, told)
 }
 
 /// Returns the fault that a row got something else than it wants.
-pub(crate) fn otherwise(row: &str, got: &[u8]) -> Fail {
+pub fn otherwise(row: &str, got: &[u8]) -> Fail {
     let got = str::from_utf8(got).unwrap_or("bytes that are no text");
     Fail::new(format_args!("{row:.200}\n    got {got:.250}"))
 }
