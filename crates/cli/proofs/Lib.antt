@@ -2,5 +2,4 @@ mod Anew
 mod Imports
 mod Opened
 mod Lines
-mod Statuses
 mod Writers

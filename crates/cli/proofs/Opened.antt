@@ -31,6 +31,7 @@ use Rattle.cli.specs.declared.tasks.Task.{Task}
 use Rattle.cli.specs.declared.tasks.Task.TheVariants as task
 use Rattle.cli.specs.Outcomes.{ComesOf, IsUnopened, MayDo, Outcome, refused}
 use Rattle.cli.specs.Databases.{ComesFrom, DoesOver, IsDone, IsFoundFor, IsOfficeIn, IsOfficeOf, IsWhyUnopened, LeftBy, TakesTo, PrintsOver, WasClean}
+use Rattle.cli.specs.declared.status.Status.{Status}
 
 -- what was opened is the office of the database before
 of_opened : (old new : Database) (office : State) → Opens old new office → IsOfficeOf old office
@@ -126,7 +127,7 @@ module _ {S : Type 0} (ghosts : Ghosts S) (lent ports : ℕ → PortState) (with
   tells_within name done first last o (inl new) = inl (new.0, new.1, does_within done first last new.1 new.2, new.3)
   tells_within name done first last o (inr old) = inr (old.0, does_within done first last o old.1)
 
-  pub left_within : (done : Task) (status : ℕ) (first last : Held S) → LeftBy ghosts lent done status first last → LeftBy ghosts ports done status first last
+  pub left_within : (done : Task) (status : Status) (first last : Held S) → LeftBy ghosts lent done status first last → LeftBy ghosts ports done status first last
   left_within done status first last (inl is) = inl (done_within (TakesTo ghosts lent done) (TakesTo ghosts ports done) (λ desk next taken. takes_within done desk next taken) first last is)
   left_within done status first last (inr stays) = inr stays
 

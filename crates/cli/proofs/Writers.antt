@@ -17,6 +17,8 @@ use Rattle.cli.specs.Imports.{IsUnreadOf}
 use Rattle.cli.specs.Outputs.{Both, HasPrinted, Output, both_failures}
 use Rattle.cli.specs.Outcomes.{OfDatabase, OnFile, Outcome, Prints, behind, of_round, prints, refused, refusal_line, named_line, new_database, listening, IsUnreadFile, IsServed}
 use Rattle.cli.specs.Inside.Outcomes.{Serves}
+use Rattle.cli.specs.declared.status.Status.{Status}
+use Rattle.cli.specs.declared.status.Status.TheVariants.{Success, Failure}
 
 -- what the two writers took, and how many of their calls failed
 pub record Took : Type 0 where
@@ -25,13 +27,13 @@ pub record Took : Type 0 where
   pub failures : ℕ
 
 -- `Prints` says nothing else of the two outputs
-abbrev pub PrintsOf : (Outcome → Type 0) → Took → Took → ℕ → Type 0
+abbrev pub PrintsOf : (Outcome → Type 0) → Took → Took → Status → Type 0
 PrintsOf Is old new status =
     ((o : Outcome) × Is o × (new.failures ≡ old.failures) × Appends old.out new.out o.out × Appends old.err new.err o.err × (status ≡ o.status))
-    ⊎ ((new.failures ≡ old.failures + 1) × (status ≡ 1))
+    ⊎ ((new.failures ≡ old.failures + 1) × (status ≡ Failure))
 
 -- what is printed may come of more
-pub prints_more : (A B : Outcome → Type 0) → ((o : Outcome) → A o → B o) → (old new : Took) (status : ℕ) → PrintsOf A old new status → PrintsOf B old new status
+pub prints_more : (A B : Outcome → Type 0) → ((o : Outcome) → A o → B o) → (old new : Took) (status : Status) → PrintsOf A old new status → PrintsOf B old new status
 prints_more A B more old new status (inl t) = inl (t.0, more t.0 t.1, t.2, t.3, t.4, t.5)
 prints_more A B more old new status (inr failed) = inr failed
 
@@ -44,19 +46,19 @@ pub at_err : {A E : Type 0} (P : A → Type 0) (Q : E → Type 0) (came : Result
 at_err {A} {E} P Q came e is q = subst (λ (r : Result A E). MatchResult r P Q) (sym is) q
 
 -- what comes of the value that came is printed
-pub ok_printed : {A E : Type 0} (Of : A → Outcome → Type 0) (At : E → Outcome → Type 0) (came : Result A E) (a : A) → came ≡ Ok a → (old new : Took) (status : ℕ)
+pub ok_printed : {A E : Type 0} (Of : A → Outcome → Type 0) (At : E → Outcome → Type 0) (came : Result A E) (a : A) → came ≡ Ok a → (old new : Took) (status : Status)
     → PrintsOf (λ o. Of a o) old new status → PrintsOf (λ o. MatchResult came (λ a. Of a o) (λ e. At e o)) old new status
 ok_printed Of At came a is old new status printed =
     prints_more (λ o. Of a o) (λ o. MatchResult came (λ a. Of a o) (λ e. At e o)) (λ o of. at_ok (λ a. Of a o) (λ e. At e o) came a is of) old new status printed
 
 -- what comes of the error that came is printed
-pub err_printed : {A E : Type 0} (Of : A → Outcome → Type 0) (At : E → Outcome → Type 0) (came : Result A E) (e : E) → came ≡ Err e → (old new : Took) (status : ℕ)
+pub err_printed : {A E : Type 0} (Of : A → Outcome → Type 0) (At : E → Outcome → Type 0) (came : Result A E) (e : E) → came ≡ Err e → (old new : Took) (status : Status)
     → PrintsOf (λ o. At e o) old new status → PrintsOf (λ o. MatchResult came (λ a. Of a o) (λ e. At e o)) old new status
 err_printed Of At came e is old new status printed =
     prints_more (λ o. At e o) (λ o. MatchResult came (λ a. Of a o) (λ e. At e o)) (λ o at. at_err (λ a. Of a o) (λ e. At e o) came e is at) old new status printed
 
 -- what comes of a database that is new is printed after its name
-pub printed_new : {O E : Type 0} (name : List ℕ) (IsNew : Type 0) (Is : Outcome → Type 0) → IsNew → (old mid new : Both O E) (status : ℕ) → HasPrinted (new_database name) old mid → Prints Is mid new status
+pub printed_new : {O E : Type 0} (name : List ℕ) (IsNew : Type 0) (Is : Outcome → Type 0) → IsNew → (old mid new : Both O E) (status : Status) → HasPrinted (new_database name) old mid → Prints Is mid new status
     → Prints (OfDatabase name IsNew Is) old new status
 printed_new {O} {E} name IsNew Is is_new old mid new status has (inl t) =
     let counted : both_failures mid ≡ both_failures old = ap (λ (out : Output O). out.failures + mid.err.failures) has.out ∙ ap (λ n. old.out.failures + n) has.failures in
@@ -66,19 +68,19 @@ printed_new {O} {E} name IsNew Is is_new old mid new status has (inr failed) =
     inr (failed.0 ∙ ap (λ n. n + 1) counted, failed.1)
 
 -- where a refusal is printed the status is 1
-pub refused_ends : (r : Refusal) (old new : Took) (status : ℕ) → PrintsOf (λ o. o ≡ refused r) old new status → status ≡ 1
+pub refused_ends : (r : Refusal) (old new : Took) (status : Status) → PrintsOf (λ o. o ≡ refused r) old new status → status ≡ Failure
 refused_ends r old new status (inl t) = t.5 ∙ ap (λ (o : Outcome). o.status) t.1
 refused_ends r old new status (inr failed) = failed.1
 
 module _ {D : Type 0} (step : D → MessageText → List ℕ → D → Type 0) (peers : ℕ → Peer) where
   -- the connections were served, and their lines printed after the port's
   pub all_served : (before after : D) (port count : ℕ) (w0 w1 w : Option (List ℕ)) (f0 f1 f : ℕ) → Appends w0 w1 (listening port) → f1 ≡ f0 → AllServed step peers before count w1 w after → f ≡ f1
-      → Serves step peers port count before after w0 w f0 f 0
+      → Serves step peers port count before after w0 w f0 f Success
   all_served before after port count w0 w1 w f0 f1 f printed same served still =
       inl (prints (listening port ++ lines_after 0 served.came), record { came = served.came; counted = served.counted; served = served.served; is = refl }, still ∙ same, appends_compose w0 w1 w _ _ printed served.wrote, refl)
 
   -- what was served is printed on standard output alone
-  pub served_printed : (before after : D) (port count : ℕ) (w0 w v : Option (List ℕ)) (f0 f g ends : ℕ) → Serves step peers port count before after w0 w f0 f ends
+  pub served_printed : (before after : D) (port count : ℕ) (w0 w v : Option (List ℕ)) (f0 f g : ℕ) (ends : Status) → Serves step peers port count before after w0 w f0 f ends
       → PrintsOf (IsServed step peers port count before after) (record { out = w0; err = v; failures = f0 + g }) (record { out = w; err = v; failures = f + g }) ends
   served_printed before after port count w0 w v f0 f g ends (inl s) =
       let printed : s.0 ≡ prints (listening port ++ lines_after 0 s.1.came) = s.1.is in

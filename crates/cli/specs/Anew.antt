@@ -5,6 +5,8 @@ use Rattle.wire.specs.declared.outcome.Served.{Served}
 use Rattle.wire.specs.declared.outcome.StreamFault.{StreamFault}
 use Rattle.wire.specs.Served.{ServedTo, BrokeOff}
 use Rattle.web.specs.Serving.{AnswersMessage, AtDesk, end_text, just_opened}
+use Rattle.cli.specs.declared.status.Status.{Status}
+use Rattle.cli.specs.declared.status.Status.TheVariants.{Success, Failure}
 
 -- The stream was served to its end: what was written is the answers of a run over its messages, from the empty office without a session on,
 -- and then the refusal of its end.
@@ -19,6 +21,6 @@ BrokenAnew left0 w0 left w =
     ⊎ ((left ≡ left0) × (w ≡ w0))
 
 -- the stream was served to its end and the status is 0, or it broke off and the status is 1
-abbrev pub StreamsAnew : Option (List ℕ) → Option (List ℕ) → Option (List ℕ) → Option (List ℕ) → ℕ → Type 0
+abbrev pub StreamsAnew : Option (List ℕ) → Option (List ℕ) → Option (List ℕ) → Option (List ℕ) → Status → Type 0
 StreamsAnew left0 w0 left w status =
-    (ServedAnew left0 w0 left w × (status ≡ 0)) ⊎ (BrokenAnew left0 w0 left w × (status ≡ 1))
+    (ServedAnew left0 w0 left w × (status ≡ Success)) ⊎ (BrokenAnew left0 w0 left w × (status ≡ Failure))

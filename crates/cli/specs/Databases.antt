@@ -51,6 +51,8 @@ use Rattle.cli.specs.declared.tasks.Task.TheVariants as task
 use Rattle.cli.specs.Outputs.{Both}
 use Rattle.cli.specs.Imports.{IsImportOfFile}
 use Rattle.cli.specs.Outcomes.{MayComeOf, OfDatabase, OnFile, Outcome, ServesAt, Prints, of_answer, refused}
+use Rattle.cli.specs.declared.status.Status.{Status}
+use Rattle.cli.specs.declared.status.Status.TheVariants.{Failure}
 
 -- a disk that is clean after a task was clean before it
 abbrev pub WasClean : Seen → Seen → Type 0
@@ -120,9 +122,9 @@ module _ {S : Type 0} (ghosts : Ghosts S) (ports : ℕ → PortState) where
 
   -- What a task with this status leaves of a database, whether or not it could be printed: what it makes of the office, or, where that was
   -- not opened, with status 1, the database as it was.
-  abbrev pub LeftBy : Task → ℕ → Held S → Held S → Type 0
+  abbrev pub LeftBy : Task → Status → Held S → Held S → Type 0
   LeftBy done status first last =
-      IsDone ghosts (TakesTo ghosts ports done) first last ⊎ ((status ≡ 1) × StaysSo (state ghosts first) (state ghosts last))
+      IsDone ghosts (TakesTo ghosts ports done) first last ⊎ ((status ≡ Failure) × StaysSo (state ghosts first) (state ghosts last))
 
   -- what is printed of a task at the database with this name: the name first, where none of the tables is there yet, then what it comes to
   abbrev pub PrintsOver : List ℕ → Task → Held S → Held S → Outcome → Type 0
@@ -145,7 +147,7 @@ Came D g = Option (Result (Files D) (Error × FileStore D g))
 -- What is left of the database file with this name: it was opened, with its first contents, a task was done over it, and it was closed, to
 -- this end. The office that was found is the one of the file.
 pub record LeavesFile {D : Type 0} {g : disk.Ghosts D} (world : WorldState) (name : List ℕ) (done : Task)
-    (first last : Held (FileStore D g)) (came : Result (Files D) (Error × FileStore D g)) (status : ℕ) : Type 0 where
+    (first last : Held (FileStore D g)) (came : Result (Files D) (Error × FileStore D g)) (status : Status) : Type 0 where
   pub found : HasCleanDisk (file_state first) → FindsIn (world.image name) (file_state first)
   pub opened : HasCleanDisk (file_state first) → IsOpened first
   pub plain : HasCleanDisk (file_state first) → IsBlankAs false (world.image name) → (view first.store).has_sums ≡ false
@@ -155,7 +157,7 @@ pub record LeavesFile {D : Type 0} {g : disk.Ghosts D} (world : WorldState) (nam
 
 -- a task was done over the database file with this name: what is left of it, and what was printed, of one connection
 pub record DoneOver {D : Type 0} {g : disk.Ghosts D} {O E : Type 0} (world : WorldState) (name : List ℕ) (done : Task)
-    (came : Result (Files D) (Error × FileStore D g)) (old new : Both O E) (status : ℕ) : Type 0 where
+    (came : Result (Files D) (Error × FileStore D g)) (old new : Both O E) (status : Status) : Type 0 where
   pub first : Held (FileStore D g)
   pub last : Held (FileStore D g)
   pub leaves : LeavesFile world name done first last came status
@@ -171,17 +173,17 @@ IsUnfound world name o = (error : Error) × world.refuses name error × (refusal
 
 module _ {D : Type 0} {g : disk.Ghosts D} {O E : Type 0} (world : WorldState) where
   -- a task was done over the file with this name, or it could not be opened
-  abbrev pub DoneAt : List ℕ → Task → Came D g → Both O E → Both O E → ℕ → Type 0
+  abbrev pub DoneAt : List ℕ → Task → Came D g → Both O E → Both O E → Status → Type 0
   DoneAt name done (Some came) old new status = DoneOver world name done came old new status
   DoneAt name done None old new status = Prints (IsUnfound world name) old new status
 
   -- what was made of an import file was asked over the file with this name, or was refused, and nothing was opened
-  abbrev pub AskedAt : List ℕ → Result Request Refusal → Came D g → Both O E → Both O E → ℕ → Type 0
+  abbrev pub AskedAt : List ℕ → Result Request Refusal → Came D g → Both O E → Both O E → Status → Type 0
   AskedAt name (Ok asked) came old new status = DoneAt name (task.Ask asked) came old new status
   AskedAt name (Err refusal) came old new status = (came ≡ None) × Prints (λ o. o ≡ refused refusal) old new status
 
   -- a line was done at the database file that it names, if it names one
-  abbrev pub LineAt : Line → Came D g → Both O E → Both O E → ℕ → Type 0
+  abbrev pub LineAt : Line → Came D g → Both O E → Both O E → Status → Type 0
   LineAt (line.Serve database port count) came old new status = DoneAt (string_bytes database) (task.Serve (record { port = port; count = count })) came old new status
   LineAt (line.Import database kind id file) came old new status =
       (made : Result Request Refusal) × IsImportOfFile (world.holds (string_bytes file)) (string_bytes id) kind made × AskedAt (string_bytes database) made came old new status
@@ -193,10 +195,10 @@ module _ {D : Type 0} {g : disk.Ghosts D} {O E : Type 0} (world : WorldState) wh
   LineAt (line.Check file) came old new status = (came ≡ None) × Prints (OnFile (world.holds (string_bytes file)) IsChecked) old new status
 
   -- the line of the words was done so, or their fault was printed, and nothing was opened
-  abbrev pub CommandAt : Result Line LineFault → Came D g → Both O E → Both O E → ℕ → Type 0
+  abbrev pub CommandAt : Result Line LineFault → Came D g → Both O E → Both O E → Status → Type 0
   CommandAt (Ok line) came old new status = LineAt line came old new status
   CommandAt (Err fault) came old new status = (came ≡ None) × Prints (MayComeOf (Err fault)) old new status
 
   -- the same of any words that are read so
-  abbrev pub WordsAt : List (List ℕ) → Came D g → Both O E → Both O E → ℕ → Type 0
+  abbrev pub WordsAt : List (List ℕ) → Came D g → Both O E → Both O E → Status → Type 0
   WordsAt words came old new status = (command : Result Line LineFault) × IsAnswer words command × CommandAt command came old new status

@@ -31,24 +31,24 @@ use Rattle.commands.specs.declared.line.LineFault.TheVariants.{Memory, Help, Ver
 use Rattle.commands.specs.Reading.{IsAnswer}
 use Rattle.cli.specs.declared.tasks.Task.{Task}
 use Rattle.cli.specs.declared.tasks.Task.TheVariants as task
-use Rattle.cli.specs.declared.unread.Unread.{Unread}
-use Rattle.cli.specs.declared.unread.Unread.TheVariants as unread
 use Rattle.cli.specs.Outputs.{Both, both_failures}
 use Rattle.wire.specs.declared.outcome.Served.{Served}
 use Rattle.wire.specs.declared.outcome.StreamFault.{StreamFault}
+use Rattle.cli.specs.declared.status.Status.{Status}
+use Rattle.cli.specs.declared.status.Status.TheVariants.{Success, Failure, Usage}
 
 -- what is written on standard output and on standard error, and the status
 pub record Outcome : Type 0 where
   pub out : List ℕ
   pub err : List ℕ
-  pub status : ℕ
+  pub status : Status
 
 -- a result
 abbrev pub prints : List ℕ → Outcome
-prints text = record { out = text; err = []; status = 0 }
+prints text = record { out = text; err = []; status = Success }
 
 -- a message, with this status
-abbrev pub prints_err : ℕ → List ℕ → Outcome
+abbrev pub prints_err : Status → List ℕ → Outcome
 prints_err status text = record { out = []; err = text; status = status }
 
 -- the line of a refusal with this number and this name
@@ -62,7 +62,7 @@ refusal_line refusal = named_line (number_of refusal) (name_of refusal)
 
 -- a refusal
 abbrev pub refused : Refusal → Outcome
-refused refusal = prints_err 1 (refusal_line refusal)
+refused refusal = prints_err Failure (refusal_line refusal)
 
 -- the line of a round text's bad line
 abbrev pub bad_line : ℕ → List ℕ
@@ -72,8 +72,8 @@ bad_line n = codes "bad line " ++ decimal n ++ 10 ∷ []
 abbrev pub of_round : Result (String Global) Trouble → Outcome
 of_round (Ok text) = prints (string_bytes text)
 of_round (Err (Refused refusal)) = refused refusal
-of_round (Err (BadLine n)) = prints_err 1 (bad_line n)
-of_round (Err (Failed text)) = record { out = string_bytes text; err = []; status = 1 }
+of_round (Err (BadLine n)) = prints_err Failure (bad_line n)
+of_round (Err (Failed text)) = record { out = string_bytes text; err = []; status = Failure }
 
 -- numbers, each after a space
 abbrev pub counts_text : List ℕ → List ℕ
@@ -143,7 +143,7 @@ no_port port = codes "no port " ++ decimal port ++ 10 ∷ []
 
 -- the port could not be bound, and nothing is done at the desk
 abbrev pub IsUnbound : {D : Type 0} → ℕ → D → D → Outcome → Type 0
-IsUnbound port before after o = (after ≡ before) × (o ≡ prints_err 1 (no_port port))
+IsUnbound port before after o = (after ≡ before) × (o ≡ prints_err Failure (no_port port))
 
 module _ {D : Type 0} (step : D → MessageText → List ℕ → D → Type 0) (peers : ℕ → Peer) where
   -- this many connections, the first that came, were served at a desk
@@ -192,29 +192,24 @@ MayCome (line.Report database kind round) o = MayDoAt (string_bytes database) (t
 MayCome (line.Solve file) o = OnFile (λ _. ⊤) IsSolved o
 MayCome (line.Check file) o = OnFile (λ _. ⊤) IsChecked o
 
--- what is printed where the arguments cannot be read
-abbrev pub of_unread : Unread → Outcome
-of_unread unread.Memory = refused no.Memory
-of_unread unread.NotUtf8 = prints_err 2 (codes "error: invalid UTF-8 was detected in one or more arguments\n\nUsage: spadesk <COMMAND>\n\nFor more information, try '--help'.\n")
-
 -- what words may come to: what their line does, or their fault
 abbrev pub MayComeOf : Result Line LineFault → Outcome → Type 0
 MayComeOf (Ok line) o = MayCome line o
 MayComeOf (Err Memory) o = o ≡ refused no.Memory
 MayComeOf (Err (Help text)) o = o ≡ prints (string_bytes text)
 MayComeOf (Err (Version text)) o = o ≡ prints (string_bytes text)
-MayComeOf (Err (Fault text)) o = o ≡ prints_err 2 (string_bytes text)
+MayComeOf (Err (Fault text)) o = o ≡ prints_err Usage (string_bytes text)
 
 -- a text was written and the status is this, or the writer failed and the status is 1
-abbrev pub Printed : List ℕ → ℕ → Option (List ℕ) → Option (List ℕ) → ℕ → ℕ → ℕ → Type 0
+abbrev pub Printed : List ℕ → Status → Option (List ℕ) → Option (List ℕ) → ℕ → ℕ → Status → Type 0
 Printed text status w0 w failures0 failures ends =
-    ((failures ≡ failures0) × Appends w0 w text × (ends ≡ status)) ⊎ ((failures ≡ failures0 + 1) × (ends ≡ 1))
+    ((failures ≡ failures0) × Appends w0 w text × (ends ≡ status)) ⊎ ((failures ≡ failures0 + 1) × (ends ≡ Failure))
 
 -- one of these outcomes was written to the two outputs and its status is this, or one call of a writer failed and the status is 1
-abbrev pub Prints : {O E : Type 0} → (Outcome → Type 0) → Both O E → Both O E → ℕ → Type 0
+abbrev pub Prints : {O E : Type 0} → (Outcome → Type 0) → Both O E → Both O E → Status → Type 0
 Prints Is old new status =
     ((o : Outcome) × Is o × (both_failures new ≡ both_failures old) × Appends old.out.written new.out.written o.out × Appends old.err.written new.err.written o.err × (status ≡ o.status))
-    ⊎ ((both_failures new ≡ both_failures old + 1) × (status ≡ 1))
+    ⊎ ((both_failures new ≡ both_failures old + 1) × (status ≡ Failure))
 
 -- what the words may come to
 abbrev pub ComesTo : List (List ℕ) → Outcome → Type 0

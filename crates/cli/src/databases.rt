@@ -7,6 +7,7 @@ ghost use Rattle.cli.specs.Databases.{DoesOver, PrintsOver, LeftBy, IsClosing};
 
 use crate::opening::{Closing, close_file};
 use crate::outputs::Outputs;
+use crate::status::Status;
 use crate::tasks::{Task, do_at};
 use desk::Desk;
 use sqlite::{Alter, Connection, FileStore};
@@ -26,7 +27,7 @@ fn do_over<S: Alter + Drop, P: Ports, O: Sink, E: Sink>(
     connection: Connection<S>,
     task: Task,
     outputs: &mut Outputs<O, E>,
-) -> (u8, Connection<S>)
+) -> (Status, Connection<S>)
     requires { CanFail outputs.old }
     ensures printed { Prints (DoesOver S.Store (P.state ports) task connection result.1) outputs.old outputs.new result.0 }
 
@@ -56,7 +57,7 @@ fn do_named<S: Alter + Drop, P: Ports, O: Sink, E: Sink>(
     connection: Connection<S>,
     task: Task,
     outputs: &mut Outputs<O, E>,
-) -> (u8, Connection<S>)
+) -> (Status, Connection<S>)
     requires { CanFail outputs.old }
     ensures printed { Prints (PrintsOver S.Store (P.state ports) name.now task connection result.1) outputs.old outputs.new result.0 }
     ensures left { LeftBy S.Store (P.state ports) task result.0 connection result.1 }
@@ -66,7 +67,7 @@ fn do_named<S: Alter + Drop, P: Ports, O: Sink, E: Sink>(
     }
     let Ok(()) = outputs.print_new(name) else {
         drop((ports, task));
-        return (1, connection);
+        return (Status::Failure, connection);
     };
     do_over(alloc, ports, connection, task, outputs)
 }
@@ -79,7 +80,7 @@ pub(crate) fn do_and_close<D: Disk + Drop, P: Ports, O: Sink, E: Sink>(
     connection: Connection<FileStore<D>>,
     task: Task,
     outputs: &mut Outputs<O, E>,
-) -> (u8, Closing<D>)
+) -> (Status, Closing<D>)
     requires { CanFail outputs.old }
 
     // One connection shows what was printed and what is left, and it is the one that was closed.

@@ -9,6 +9,7 @@ use crate::files::read_file;
 use crate::named::do_on;
 use crate::opening::Closing;
 use crate::outputs::Outputs;
+use crate::status::Status;
 use crate::tasks::Task;
 use rolls::{Bytes, ImportKind, MAX_IMPORT_BYTES, Refusal, Request, Text};
 use std::alloc::{AllocError, Global};
@@ -80,7 +81,7 @@ pub(crate) fn ask_made<W: World, O: Sink, E: Sink>(
     database: &str,
     made: Result<Request, Refusal>,
     outputs: &mut Outputs<O, E>,
-) -> (u8, Option<Closing<W::File>>)
+) -> (Status, Option<Closing<W::File>>)
     requires { CanFail outputs.old }
     ensures { AskedAt (W.state world) database.now made result.1 outputs.old outputs.new result.0 }
 {

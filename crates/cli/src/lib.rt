@@ -22,13 +22,13 @@ mod printing;
 mod program;
 mod rounds;
 mod run;
+mod status;
 mod tasks;
 mod texts;
-mod unread;
 
 pub use laws::printed_law;
 pub use opening::Closing;
 pub use outputs::Outputs;
-pub use program::{begin, do_all, serve_anew, start};
-pub use run::{line, print_unread, run_command};
-pub use unread::Unread;
+pub use program::{do_all, serve_anew, start};
+pub use run::{line, run_command};
+pub use status::Status;

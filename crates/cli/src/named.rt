@@ -6,6 +6,7 @@ ghost use Rattle.cli.specs.Databases.{DoneAt};
 use crate::databases::do_and_close;
 use crate::opening::{Closing, open_file};
 use crate::outputs::Outputs;
+use crate::status::Status;
 use crate::tasks::Task;
 use std::alloc::Global;
 use web::Sink;
@@ -22,7 +23,7 @@ pub(crate) fn do_on<W: World, O: Sink, E: Sink>(
     database: &str,
     task: Task,
     outputs: &mut Outputs<O, E>,
-) -> (u8, Option<Closing<W::File>>)
+) -> (Status, Option<Closing<W::File>>)
     requires { CanFail outputs.old }
     ensures { DoneAt (W.state world) database.now task result.1 outputs.old outputs.new result.0 }
 {

@@ -5,6 +5,7 @@ ghost use Rattle.cli.specs.Outputs.{CanFail, HasPrinted, both_failures};
 ghost use Rattle.cli.specs.Outcomes.{Prints, prints_err, prints, refused, new_database, printed_reply};
 
 use crate::printing::{print, print_reply, refuse, write_new};
+use crate::status::Status;
 use rolls::{Refusal, Reply};
 use std::marker::Model;
 use web::{Sink, StreamFault};
@@ -37,7 +38,7 @@ impl<O: Sink, E: Sink> Outputs<O, E> {
     }
 
     /// Prints a result with this status.
-    pub(crate) fn print(&mut self, text: &[u8], status: u8) -> u8
+    pub(crate) fn print(&mut self, text: &[u8], status: Status) -> Status
         requires { CanFail self.old }
         ensures { Prints (λ o. o ≡ record { out = text.now; err = []; status = status }) self.old self.new result }
     {
@@ -45,7 +46,7 @@ impl<O: Sink, E: Sink> Outputs<O, E> {
     }
 
     /// Prints what is printed of an answer.
-    pub(crate) fn print_reply(&mut self, reply: &Reply) -> u8
+    pub(crate) fn print_reply(&mut self, reply: &Reply) -> Status
         requires { CanFail self.old }
         ensures { Prints (λ o. o ≡ prints (printed_reply reply.now)) self.old self.new result }
     {
@@ -53,7 +54,7 @@ impl<O: Sink, E: Sink> Outputs<O, E> {
     }
 
     /// Prints a message with this status.
-    pub(crate) fn print_err(&mut self, text: &[u8], status: u8) -> u8
+    pub(crate) fn print_err(&mut self, text: &[u8], status: Status) -> Status
         requires { CanFail self.old }
         ensures { Prints (λ o. o ≡ prints_err status text.now) self.old self.new result }
     {
@@ -70,7 +71,7 @@ impl<O: Sink, E: Sink> Outputs<O, E> {
     }
 
     /// Prints a refusal.
-    pub(crate) fn refuse(&mut self, refusal: Refusal) -> u8
+    pub(crate) fn refuse(&mut self, refusal: Refusal) -> Status
         requires { CanFail self.old }
         ensures { Prints (λ o. o ≡ refused refusal) self.old self.new result }
     {

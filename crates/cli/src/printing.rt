@@ -6,28 +6,29 @@ ghost use Rattle.cli.specs.Outputs.{CanFail};
 ghost use Rattle.cli.specs.Outcomes.{Printed, Prints, new_database, refusal_line, of_round, printed_reply};
 
 use crate::outputs::Outputs;
+use crate::status::Status;
 use crate::texts::{bad_line, closed_line, labelled, refusal_line};
 use rolls::{Refusal, Reply};
 use round_files::Trouble;
 use web::{Sink, StreamFault, write_all};
 
-/// Writes a text, and gives the status, or 1 where it could not be written.
-pub(crate) fn print<W: Sink>(out: &mut W, text: &[u8], status: u8) -> u8
+/// Writes a text, and gives the status, or that of a failure where it could not be written.
+pub(crate) fn print<W: Sink>(out: &mut W, text: &[u8], status: Status) -> Status
     requires { W.failures out.old < 2 ^ 64 - 1 }
     ensures { Printed text.now status (W.written out.old) (W.written out.new) (W.failures out.old) (W.failures out.new) result }
 {
     match write_all(out, text) {
         Ok(()) => status,
-        Err(_) => 1,
+        Err(_) => Status::Failure,
     }
 }
 
 /// Writes a refusal, and gives its status.
-pub(crate) fn refuse<W: Sink>(err: &mut W, refusal: Refusal) -> u8
+pub(crate) fn refuse<W: Sink>(err: &mut W, refusal: Refusal) -> Status
     requires { W.failures err.old < 2 ^ 64 - 1 }
-    ensures { Printed (refusal_line refusal) 1 (W.written err.old) (W.written err.new) (W.failures err.old) (W.failures err.new) result }
+    ensures { Printed (refusal_line refusal) Status.Failure (W.written err.old) (W.written err.new) (W.failures err.old) (W.failures err.new) result }
 {
-    print(err, refusal_line(refusal).as_slice(), 1)
+    print(err, refusal_line(refusal).as_slice(), Status::Failure)
 }
 
 /// Writes the name of a database that is new. A name has any length, so nothing is allocated for it.
@@ -42,25 +43,33 @@ pub(crate) fn write_new<W: Sink>(err: &mut W, name: &str) -> Result<(), StreamFa
 }
 
 /// Writes what is printed of an answer.
-pub(crate) fn print_reply<W: Sink>(out: &mut W, reply: &Reply) -> u8
+pub(crate) fn print_reply<W: Sink>(out: &mut W, reply: &Reply) -> Status
     requires { W.failures out.old < 2 ^ 64 - 1 }
-    ensures { Printed (printed_reply reply.now) 0 (W.written out.old) (W.written out.new) (W.failures out.old) (W.failures out.new) result }
+    ensures { Printed (printed_reply reply.now) Status.Success (W.written out.old) (W.written out.new) (W.failures out.old) (W.failures out.new) result }
 {
     match reply {
-        Reply::Rows(rows) => print(out, labelled(b"rows ", *rows).as_slice(), 0),
-        Reply::Opened { round } => print(out, labelled(b"round ", *round).as_slice(), 0),
+        Reply::Rows(rows) => print(out, labelled(b"rows ", *rows).as_slice(), Status::Success),
+        Reply::Opened { round } => print(
+            out,
+            labelled(b"round ", *round).as_slice(),
+            Status::Success,
+        ),
         Reply::Closed {
             round,
             size,
             profile,
-        } => print(out, closed_line(*round, *size, profile).as_slice(), 0),
-        Reply::Text(text) => print(out, text.as_str().as_bytes(), 0),
+        } => print(
+            out,
+            closed_line(*round, *size, profile).as_slice(),
+            Status::Success,
+        ),
+        Reply::Text(text) => print(out, text.as_str().as_bytes(), Status::Success),
         Reply::Done
         | Reply::Supervisor { .. }
         | Reply::Project { .. }
         | Reply::Student { .. }
         | Reply::Round { .. }
-        | Reply::Preview { .. } => print(out, b"", 0),
+        | Reply::Preview { .. } => print(out, b"", Status::Success),
     }
 }
 
@@ -68,14 +77,17 @@ pub(crate) fn print_reply<W: Sink>(out: &mut W, reply: &Reply) -> u8
 pub(crate) fn print_round<O: Sink, E: Sink>(
     came: Result<String, Trouble>,
     outputs: &mut Outputs<O, E>,
-) -> u8
+) -> Status
     requires { CanFail outputs.old }
     ensures { Prints (λ o. o ≡ of_round came) outputs.old outputs.new result }
 {
     match came {
-        Ok(text) => outputs.print(text.as_bytes(), 0),
-        Err(Trouble::Failed(text)) => outputs.print(text.as_bytes(), 1),
+        Ok(text) => outputs.print(text.as_bytes(), Status::Success),
+        Err(Trouble::Failed(text)) => outputs.print(text.as_bytes(), Status::Failure),
         Err(Trouble::Refused(refusal)) => outputs.refuse(refusal),
-        Err(Trouble::BadLine(number)) => outputs.print_err(bad_line(number).as_slice(), 1),
+        Err(Trouble::BadLine(number)) => outputs.print_err(
+            bad_line(number).as_slice(),
+            Status::Failure,
+        ),
     }
 }

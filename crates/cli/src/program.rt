@@ -1,20 +1,22 @@
 //! The program: a line where there are arguments, or else standard input served over a new database in memory.
 
-ghost use Rattle.std.specs.Prelude.{◌≡◌, ◌-◌, ◌^◌, ◌<◌, ◌≤◌, IsTrue, false, length, map, string_bytes, IfErr, IfOk};
-ghost use Rattle.std.specs.IoError.{error_kind};
+ghost use Rattle.std.specs.Prelude.{◌≡◌, ◌-◌, ◌^◌, ◌<◌, ◌≤◌, IsTrue, false};
 ghost use Rattle.cli.specs.Outputs.{CanFail};
 ghost use Rattle.cli.specs.Anew.{ServedAnew, BrokenAnew};
-ghost use Rattle.cli.specs.Begun.{IsAllDone, IsStreamDone, IsUntaken};
-ghost use Rattle.cli.specs.Databases.{WordsAt};
+ghost use Rattle.std.specs.IoError.{error_kind};
+ghost use Rattle.cli.specs.Begun.{IsAllDone, OfUnread};
+ghost use Rattle.cli.specs.Outcomes.{Prints};
 
 use crate::opening::Closing;
 use crate::outputs::Outputs;
-use crate::run::{print_unread, run_command};
-use crate::unread::Unread;
+use crate::run::run_command;
+use crate::status::Status;
+use crate::texts::NOT_UTF8;
 use desk::Desk;
+use rolls::Refusal;
 use sqlite::{Connection, Unknown};
 use std::alloc::Global;
-use std::io;
+use std::io::{self, ErrorKind};
 use std::rt::HostRuntime;
 use web::{Sink, Source, Watched, serve_stream};
 use world::{Machine, World};
@@ -41,59 +43,57 @@ pub fn serve_anew<R: Source, W: Sink>(alloc: Global, reader: &mut R, writer: &mu
     }
 }
 
-/// Does the line of the words that were given, the program's name first, as `run_command` does; where there is no other
-/// word, serves the reader's stream to standard output, as `serve_anew` does; where they cannot be read, prints why, as `print_unread`
-/// does. Gives the status of the program: 0 for a stream that was served to its end, and 1 for one that was not. What came of closing
-/// a database file is given back next to it.
-pub fn begin<W: World, R: Source, O: Sink, E: Sink>(
+/// Prints why the words of the command line cannot be read: where memory ran out for them as a refusal, and else as a fault of the command,
+/// since one of them is not UTF-8.
+fn print_unread<O: Sink, E: Sink>(error: io::Error, outputs: &mut Outputs<O, E>) -> Status
+    requires { CanFail outputs.old }
+    ensures { Prints (OfUnread (error_kind error)) outputs.old outputs.new result }
+{
+    if error.kind() == ErrorKind::OutOfMemory {
+        outputs.refuse(Refusal::Memory)
+    } else {
+        outputs.print_err(NOT_UTF8.as_bytes(), Status::Usage)
+    }
+}
+
+/// Does all that the program does in a world: the line of its words, the program's name first, as `run_command` does; where there is no
+/// other word, serves the reader's stream to standard output, as `serve_anew` does; where they cannot be read, prints why, as
+/// `print_unread` does. Gives the status of the program, which is a failure for a stream that was not served to its end. What came of
+/// closing a database file is given back next to it.
+pub fn do_all<W: World, R: Source, O: Sink, E: Sink>(
     alloc: Global,
     world: W,
-    given: io::Result<Vec<String>>,
     reader: &mut R,
     outputs: &mut Outputs<O, E>,
-) -> (u8, Option<Closing<W::File>>)
+) -> (Status, Option<Closing<W::File>>)
     requires reader { R.failures reader.old < 2 ^ 64 - 1 }
     requires open { R.ended reader.old ≡ false }
     requires outputs { CanFail outputs.old }
 
     // A line does not read the stream, and a stream opens no file. Where the words cannot be read neither is touched.
-    ensures line { IfOk given (λ words. 1 < length words.items → (reader.new ≡ reader.old) × WordsAt (W.state world) (map string_bytes words.items) result.1 outputs.old outputs.new result.0) }
-    ensures stream { IfOk given (λ words. length words.items ≤ 1 → IsStreamDone (R.left reader.old) (R.left reader.new) result.1 outputs.old outputs.new result.0) }
-    ensures unread { IfErr given (λ error. IsUntaken (error_kind error) result.1 reader.old reader.new outputs.old outputs.new result.0) }
-    ensures status { result.0 ≤ 2 }
+    ensures done { IsAllDone (W.state world) reader.old reader.new (R.left reader.old) (R.left reader.new) result.1 outputs.old outputs.new result.0 }
 {
-    match given {
-        Ok(words) => {
-            if words.len() > 1 {
-                return run_command(alloc, world, &words, outputs);
-            }
-            let served = serve_anew(alloc, reader, &mut outputs.out);
-            (u8::from(!served), None)
-        }
-        Err(error) => (print_unread(Unread::of(&error), &mut outputs.err), None),
+    let words = match world.words() {
+        Ok(words) => words,
+        Err(error) => return (print_unread(error, outputs), None),
+    };
+    if words.len() > 1 {
+        return run_command(alloc, world, &words, outputs);
+    }
+    if serve_anew(alloc, reader, &mut outputs.out) {
+        (Status::Success, None)
+    } else {
+        (Status::Failure, None)
     }
 }
 
-/// Does all that the program does in a world, with its words and its standard input, as `begin` does.
-pub fn do_all<W: World, O: Sink, E: Sink>(
-    alloc: Global,
-    world: W,
-    outputs: &mut Outputs<O, E>,
-) -> (u8, Option<Closing<W::File>>)
-    requires { CanFail outputs.old }
-    ensures done { IsAllDone (W.state world) result.1 outputs.old outputs.new result.0 }
-    ensures status { result.0 ≤ 2 }
-{
-    let given = world.words();
-    let mut reader = Watched::new(world.input());
-    begin(alloc, world, given, &mut reader, outputs)
-}
-
-/// Does all that the program does on this machine, with standard output and standard error, and gives its status, which is at most 2.
+/// Does all that the program does on this machine, with its standard streams, and gives its status, which is at most 2.
 pub fn start(rt: &HostRuntime) -> u8
     ensures { result ≤ 2 }
 {
+    let mut reader = Watched::new(rt.stdin());
     let mut outputs = Outputs::new(Watched::new(rt.stdout()), Watched::new(rt.stderr()));
-    let (status, _closing) = do_all(rt.alloc(), Machine::new(*rt, Unknown), &mut outputs);
-    status
+    let world = Machine::new(*rt, Unknown);
+    let (status, _closing) = do_all(rt.alloc(), world, &mut reader, &mut outputs);
+    status.number()
 }

@@ -8,6 +8,7 @@ ghost use Rattle.cli.specs.Inside.Rounds.{ComesBy};
 use crate::files::read_file;
 use crate::outputs::Outputs;
 use crate::printing::print_round;
+use crate::status::Status;
 use intake::MAX_BYTES;
 use rolls::Refusal;
 use round_files::{Trouble, checked, solved};
@@ -44,7 +45,7 @@ pub(crate) fn do_file<W: World, O: Sink, E: Sink>(
     way: RoundTask,
     file: &str,
     outputs: &mut Outputs<O, E>,
-) -> u8
+) -> Status
     requires { CanFail outputs.old }
     ensures { Prints (OnFile ((W.state world.now).holds file.now) (ComesBy way)) outputs.old outputs.new result }
 {

@@ -1,19 +1,16 @@
 //! A whole line: its words, what it prints, and its status.
 
-ghost use Rattle.std.specs.Prelude.{◌-◌, ◌^◌, ◌<◌, ◌≤◌, map, string_bytes};
+ghost use Rattle.std.specs.Prelude.{◌≤◌, map, string_bytes};
 ghost use Rattle.cli.specs.Outputs.{CanFail};
-ghost use Rattle.cli.specs.Outcomes.{Printed, of_unread};
 ghost use Rattle.cli.specs.Databases.{LineAt, WordsAt};
 
 use crate::importing::{ask_made, import_file};
 use crate::named::do_on;
 use crate::opening::Closing;
 use crate::outputs::Outputs;
-use crate::printing::{print, refuse};
 use crate::rounds::{RoundTask, do_file};
+use crate::status::Status;
 use crate::tasks::{Serving, Task};
-use crate::texts::NOT_UTF8;
-use crate::unread::Unread;
 use commands::{Line, LineFault, command};
 use rolls::{Plain, Refusal, Request};
 use sqlite::Unknown;
@@ -30,7 +27,7 @@ fn do_line<W: World, O: Sink, E: Sink>(
     world: W,
     line: Line,
     outputs: &mut Outputs<O, E>,
-) -> (u8, Option<Closing<W::File>>)
+) -> (Status, Option<Closing<W::File>>)
     requires { CanFail outputs.old }
     ensures { LineAt (W.state world) line result.1 outputs.old outputs.new result.0 }
 {
@@ -100,29 +97,16 @@ pub fn run_command<W: World, O: Sink, E: Sink>(
     world: W,
     words: &[String],
     outputs: &mut Outputs<O, E>,
-) -> (u8, Option<Closing<W::File>>)
+) -> (Status, Option<Closing<W::File>>)
     requires { CanFail outputs.old }
     ensures file { WordsAt (W.state world) (map string_bytes words.now) result.1 outputs.old outputs.new result.0 }
-    ensures status { result.0 ≤ 2 }
 {
     match command(alloc, words) {
         Ok(line) => do_line(alloc, world, line, outputs),
         Err(LineFault::Memory) => (outputs.refuse(Refusal::Memory), None),
-        Err(LineFault::Help(text)) => (outputs.print(text.as_bytes(), 0), None),
-        Err(LineFault::Version(text)) => (outputs.print(text.as_bytes(), 0), None),
-        Err(LineFault::Fault(text)) => (outputs.print_err(text.as_bytes(), 2), None),
-    }
-}
-
-/// Prints on `err` why the arguments of the program cannot be read, and gives the status of the program: 1 where there was no
-/// memory for them, as a refusal, and 2 where one is not UTF-8, which is a fault of the line. Where the writer fails it is 1.
-pub fn print_unread<E: Sink>(unread: Unread, err: &mut E) -> u8
-    requires { E.failures err.old < 2 ^ 64 - 1 }
-    ensures { let printed = of_unread unread in Printed printed.err printed.status (E.written err.old) (E.written err.new) (E.failures err.old) (E.failures err.new) result }
-{
-    match unread {
-        Unread::Memory => refuse(err, Refusal::Memory),
-        Unread::NotUtf8 => print(err, NOT_UTF8.as_bytes(), 2),
+        Err(LineFault::Help(text)) => (outputs.print(text.as_bytes(), Status::Success), None),
+        Err(LineFault::Version(text)) => (outputs.print(text.as_bytes(), Status::Success), None),
+        Err(LineFault::Fault(text)) => (outputs.print_err(text.as_bytes(), Status::Usage), None),
     }
 }
 
@@ -142,5 +126,5 @@ pub fn line<O: Write + Drop, E: Write + Drop>(
         &words,
         &mut outputs,
     );
-    status
+    status.number()
 }

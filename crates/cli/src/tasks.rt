@@ -9,6 +9,7 @@ ghost use Rattle.cli.specs.Inside.Outcomes.{IsCutOff, Serves};
 ghost use Rattle.cli.specs.Databases.{ComesFrom, TakesTo};
 
 use crate::outputs::Outputs;
+use crate::status::Status;
 use crate::texts::labelled;
 use desk::Desk;
 use rolls::Request;
@@ -43,23 +44,23 @@ fn serve_at<S: Alter, D: Door, O: Sink>(
     door: &mut D,
     serving: Serving,
     out: &mut O,
-) -> u8
+) -> Status
     requires { O.failures out.old < 2 ^ 64 - 1 }
     ensures printed { Serves (AnswersFrom S.Store) (D.peers door.old) serving.port serving.count desk.old desk.new (O.written out.old) (O.written out.new) (O.failures out.old) (O.failures out.new) result }
 
     // Nothing is served before the line of the port is out.
-    ensures cut { result ≡ 1 → IsCutOff (AnswersFrom S.Store) (D.peers door.old) desk.old serving.port serving.count (O.written out.old) (O.written out.new) desk.new }
+    ensures cut { result ≡ Status.Failure → IsCutOff (AnswersFrom S.Store) (D.peers door.old) desk.old serving.port serving.count (O.written out.old) (O.written out.new) desk.new }
     ensures served { (came : _) × Connect (AnswersFrom S.Store) (D.peers door.old) desk.old came desk.new }
 {
     let Ok(()) = write_all(
         out,
         labelled(b"listening ", u32::from(serving.port)).as_slice(),
     ) else {
-        return 1;
+        return Status::Failure;
     };
     match serve_on(alloc, desk, door, serving.count, out) {
-        Ok(()) => 0,
-        Err(_) => 1,
+        Ok(()) => Status::Success,
+        Err(_) => Status::Failure,
     }
 }
 
@@ -70,7 +71,7 @@ fn serve_bound<S: Alter, D: Door, O: Sink, E: Sink>(
     bound: io::Result<D>,
     serving: Serving,
     outputs: &mut Outputs<O, E>,
-) -> u8
+) -> Status
     requires { CanFail outputs.old }
     ensures printed { Prints (λ o. MatchResult bound (λ door. IsServed (AnswersFrom S.Store) (D.peers door) serving.port serving.count desk.old desk.new o) (λ _. IsUnbound serving.port desk.old desk.new o)) outputs.old outputs.new result }
     ensures served { IfOk bound (λ door. (came : _) × Connect (AnswersFrom S.Store) (D.peers door) desk.old came desk.new) }
@@ -80,7 +81,10 @@ fn serve_bound<S: Alter, D: Door, O: Sink, E: Sink>(
 {
     match bound {
         Ok(mut door) => serve_at(alloc, desk, &mut door, serving, &mut outputs.out),
-        Err(_) => outputs.print_err(labelled(b"no port ", u32::from(serving.port)).as_slice(), 1),
+        Err(_) => outputs.print_err(
+            labelled(b"no port ", u32::from(serving.port)).as_slice(),
+            Status::Failure,
+        ),
     }
 }
 
@@ -91,7 +95,7 @@ pub(crate) fn do_at<S: Alter, P: Ports, O: Sink, E: Sink>(
     desk: &mut Desk<S>,
     task: Task,
     outputs: &mut Outputs<O, E>,
-) -> u8
+) -> Status
     requires { CanFail outputs.old }
     ensures printed { Prints (ComesFrom S.Store (P.state ports) task desk.old desk.new) outputs.old outputs.new result }
     ensures taken { TakesTo S.Store (P.state ports) task desk.old desk.new }

@@ -1,4 +1,4 @@
-//! A world in memory: the words of a command, standard input, files, the file of its database, and who calls a port.
+//! A world in memory: the words of a command, files, the file of its database, and who calls a port.
 
 ghost use Rattle.std.specs.Prelude.{⊤};
 ghost use Rattle.sqlite.specs.Files.{image_of};
@@ -43,7 +43,7 @@ impl Write for Noted<'_> {
 pub(crate) type Named = (String, Vec<u8>, bool);
 
 /// Returns what reads them.
-fn reader((_name, bytes, is_torn): &Named) -> Pieces<'_> {
+pub(crate) fn reader((_name, bytes, is_torn): &Named) -> Pieces<'_> {
     let fault = (ErrorKind::WouldBlock, b"".as_slice());
     Pieces::new(bytes, (1000, 1000), is_torn.then_some(fault))
 }
@@ -93,7 +93,6 @@ impl<'a> Ports for Callers<'a> {
 pub(crate) struct InMemory<'a, D: Disk> {
     pub(crate) alloc: Global,
     pub(crate) words: &'a str,
-    pub(crate) input: &'a Named,
     pub(crate) files: &'a [Named],
     pub(crate) disks: Files<D>,
     pub(crate) callers: &'a [Named],
@@ -101,15 +100,13 @@ pub(crate) struct InMemory<'a, D: Disk> {
 }
 
 impl<'a, D: Disk + Drop> World for InMemory<'a, D> {
-    type Input = Pieces<'a>;
-
     type Reader = Pieces<'a>;
 
     type File = D;
 
     type Ports = Callers<'a>;
 
-    ghost state = { λ it. record { said = λ _. ⊤; input = λ _. ⊤; holds = λ _ _. ⊤; image = λ _. image_of D.Disk it.disks; refuses = λ _ _. ⊤; ports = λ _. some_port } };
+    ghost state = { λ it. record { said = λ _. ⊤; holds = λ _ _. ⊤; image = λ _. image_of D.Disk it.disks; refuses = λ _ _. ⊤; ports = λ _. some_port } };
 
     fn words(&self) -> io::Result<Vec<String>> {
         match self.words {
@@ -117,10 +114,6 @@ impl<'a, D: Disk + Drop> World for InMemory<'a, D> {
             "not-utf8" => Err(io::Error::from(ErrorKind::InvalidInput)),
             words => Ok(parted(self.alloc, words)?),
         }
-    }
-
-    fn input(&self) -> Pieces<'a> {
-        reader(self.input)
     }
 
     fn read(&self, path: &str) -> io::Result<Pieces<'a>> {

@@ -3,7 +3,7 @@
 //! `docs/TESTS.md` says how worlds are written. From one command to the next the database file alone is kept, without its log.
 
 use crate::files::file_of;
-use crate::in_memory::{InMemory, Named, Noted};
+use crate::in_memory::{InMemory, Named, Noted, reader};
 use cli::{Outputs, do_all};
 use sqlite::Files;
 use sqlite_disk::{Disk, Memory};
@@ -166,22 +166,25 @@ fn given(
     Ok((sent, written))
 }
 
-/// Does a command in a world, with writers that may be shut. Its status, and the files of the database, where one was opened and is closed.
+/// Does a command in a world, with standard input and writers that may be shut. Its status, and the files of the database, where one was
+/// opened and is closed.
 fn run<D: Disk + Drop>(
     alloc: Global,
     world: InMemory<'_, D>,
+    input: &Named,
     (out, err): (&RefCell<Vec<u8>>, &RefCell<Vec<u8>>),
     is_shut: bool,
 ) -> (u8, Option<Files<D>>) {
+    let mut input = Watched::new(reader(input));
     let out = Watched::new(Noted(out, is_shut));
     let mut outputs = Outputs::new(out, Watched::new(Noted(err, is_shut)));
-    match do_all(alloc, world, &mut outputs) {
-        (status, Some(Ok(files))) => (status, Some(files)),
+    match do_all(alloc, world, &mut input, &mut outputs) {
+        (status, Some(Ok(files))) => (status.number(), Some(files)),
         (status, Some(Err((_error, left)))) => {
             drop(left);
-            (status, None)
+            (status.number(), None)
         }
-        (status, None) => (status, None),
+        (status, None) => (status.number(), None),
     }
 }
 
@@ -205,13 +208,12 @@ fn do_step(alloc: Global, files: &[Named], bytes: Vec<u8>, text: &str) -> Result
     let world = InMemory {
         alloc,
         words,
-        input,
         files,
         disks: Files { log, db },
         callers,
         answers: &written,
     };
-    let (came, left) = run(alloc, world, (&written, &told), is_shut);
+    let (came, left) = run(alloc, world, input, (&written, &told), is_shut);
     let mut got = written.into_inner();
     got.push(0)?;
     got.extend_from_slice(&told.into_inner())?;

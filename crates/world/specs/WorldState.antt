@@ -45,11 +45,10 @@ pub record Within (one other : PortState) : Type 0 where
   pub peers : (n : ℕ) → IsPeer (one.peers n) (other.peers n)
   pub is_taken : one.is_taken → other.is_taken
 
--- the words of the command line, or why they cannot be read; what standard input holds; by name the files, the first contents of database
--- files, and why one is not opened; and the ports
+-- the words of the command line, or why they cannot be read; by name the files, the first contents of database files, and why one is not
+-- opened; and the ports
 pub record WorldState : Type 1 where
   pub said : Result (List (List ℕ)) ErrorKind → Type 0
-  pub input : Option (List ℕ) → Type 0
   pub holds : List ℕ → Found → Type 0
   pub image : List ℕ → Image
   pub refuses : List ℕ → Error → Type 0

@@ -12,7 +12,7 @@ use sqlite::{Connection, Error, FileFrom, FileStore, Start};
 use sqlite_disk::Disk;
 use std::fs::File;
 use std::net::{Ipv4Addr, SocketAddrV4, TcpListener, TcpStream};
-use std::rt::{HostRuntime, Stdin};
+use std::rt::HostRuntime;
 use std::{env, io};
 use wire::Watched;
 
@@ -66,22 +66,16 @@ impl<S: Start> Machine<S> {
 }
 
 impl<S: Start> World for Machine<S> {
-    type Input = Stdin;
-
     type Reader = File;
 
     type File = FileFrom<S>;
 
     type Ports = HostRuntime;
 
-    ghost state = { λ _. record { said = λ _. ⊤; input = λ _. ⊤; holds = λ _ _. ⊤; image = λ _. image_at S.Start; refuses = λ _ error. FailsToOpen ⟦<FileFrom<S> as Disk>⟧ (λ files. IsFresh true files.log × IsFresh false files.db) error; ports = λ _. some_port } };
+    ghost state = { λ _. record { said = λ _. ⊤; holds = λ _ _. ⊤; image = λ _. image_at S.Start; refuses = λ _ error. FailsToOpen ⟦<FileFrom<S> as Disk>⟧ (λ files. IsFresh true files.log × IsFresh false files.db) error; ports = λ _. some_port } };
 
     fn words(&self) -> io::Result<Vec<String>> {
         Ok(env::args(&self.rt)?.collect(self.rt.alloc())?)
-    }
-
-    fn input(&self) -> Stdin {
-        self.rt.stdin()
     }
 
     fn read(&self, path: &str) -> io::Result<File> {

@@ -59,9 +59,6 @@ pub trait Ports: Drop {
 
 /// What a program is given, and files, one of which can be opened as a database; then the ports are left.
 pub trait World: Drop {
-    /// Standard input.
-    type Input: Read + Drop;
-
     /// What is read of a file.
     type Reader: Read + Drop;
 
@@ -77,10 +74,6 @@ pub trait World: Drop {
     /// Returns the words of the command line, the program's name first.
     fn words(&self) -> io::Result<Vec<String>>
         ensures { MatchResult result (λ words. (state self.now).said (Ok (map string_bytes words.items))) (λ error. (state self.now).said (Err (error_kind error))) };
-
-    /// Returns standard input.
-    fn input(&self) -> Self::Input
-        ensures { (state self.now).input (Self.Input.remaining result) };
 
     /// Opens the file with this name, and returns what reads it.
     fn read(&self, path: &str) -> io::Result<Self::Reader>

@@ -5,13 +5,15 @@ use Rattle.web.specs.Connections.{SomeServed}
 use Rattle.wire.specs.Run.{MessageText}
 use Rattle.world.specs.WorldState.{Peer}
 use Rattle.cli.specs.Outcomes.{Outcome, listening, IsServed}
+use Rattle.cli.specs.declared.status.Status.{Status}
+use Rattle.cli.specs.declared.status.Status.TheVariants.{Success, Failure}
 
 module _ {D : Type 0} (step : D → MessageText → List ℕ → D → Type 0) (peers : ℕ → Peer) where
   -- this many connections were served at a desk and the lines of all were written, or the writer failed
-  abbrev pub Serves : ℕ → ℕ → D → D → Option (List ℕ) → Option (List ℕ) → ℕ → ℕ → ℕ → Type 0
+  abbrev pub Serves : ℕ → ℕ → D → D → Option (List ℕ) → Option (List ℕ) → ℕ → ℕ → Status → Type 0
   Serves port count before after w0 w failures0 failures status =
-      ((o : Outcome) × IsServed step peers port count before after o × (failures ≡ failures0) × Appends w0 w o.out × (status ≡ 0))
-      ⊎ ((failures ≡ failures0 + 1) × (status ≡ 1))
+      ((o : Outcome) × IsServed step peers port count before after o × (failures ≡ failures0) × Appends w0 w o.out × (status ≡ Success))
+      ⊎ ((failures ≡ failures0 + 1) × (status ≡ Failure))
 
   -- The writer failed while it wrote the line of the port, and no connection was served, or later, while it wrote the line of a connection.
   abbrev pub IsCutOff : D → ℕ → ℕ → Option (List ℕ) → Option (List ℕ) → D → Type 0

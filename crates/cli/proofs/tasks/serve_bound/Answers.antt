@@ -3,6 +3,7 @@ use Rattle.cli.proofs.Writers.{err_printed, ok_printed, served_printed, prints_m
 use Rattle.web.specs.Serving.{AnswersFrom}
 use Rattle.cli.specs.Outcomes.{IsServed, IsUnbound, prints_err}
 use Rattle.cli.proofs.tasks.serve_bound.Goals as goal
+use Rattle.cli.specs.declared.status.Status.TheVariants.{Failure}
 
 pub returns-in-Ok-clause-printed : goal.returns-in-Ok-clause-printed
 returns-in-Ok-clause-printed g c =
@@ -13,7 +14,7 @@ returns-in-Ok-clause-printed g c =
 pub returns-in-Err-clause-printed : goal.returns-in-Err-clause-printed
 returns-in-Err-clause-printed g c =
     err_printed (λ door o. IsServed (AnswersFrom g.S.Store) (g.D.Door.peers door) c.args.serving.port c.args.serving.count _ _ o) (λ _ o. IsUnbound c.args.serving.port _ _ o) c.args.bound _ c.in-Err.is _ _ _
-    (prints_more _ (λ o. IsUnbound c.args.serving.port c.args.desk.now c.args.desk.now o) (λ o is. (refl, is ∙ ap (prints_err 1) (search rules))) _ _ _ c.print_err.ensures)
+    (prints_more _ (λ o. IsUnbound c.args.serving.port c.args.desk.now c.args.desk.now o) (λ o is. (refl, is ∙ ap (prints_err Failure) (search rules))) _ _ _ c.print_err.ensures)
 
 pub returns-in-Ok-clause-served : goal.returns-in-Ok-clause-served
 returns-in-Ok-clause-served g c = search rules depth 3
