@@ -14,7 +14,8 @@ use Rattle.row_model.specs.declared.table.Table.TheVariants.{Edition, Supervisor
 use Rattle.row_model.specs.declared.row.Group.{Group}
 use Rattle.row_model.specs.declared.row.Group.TheVariants.{Key, List as OfList, Placed}
 use Rattle.row_model.specs.Rows.{keyed, kinds_of, shared_by, shared_kinds}
-use Rattle.tables.specs.Table.{Place, cells, choices, made_at, removal, shape_of, sql_of, table_at}
+use Rattle.tables.specs.Table.{Place, cells, choices, made_at, shape_of, sql_of, table_at}
+use Rattle.tables.specs.Inside.Table.{removal}
 use Rattle.tables.specs.Writes.{begins_with, goes_on}
 use Rattle.tables.proofs.Texts.{Anywhere, AreAccepted, AreFound, AreRead, AreTested, Each, Gives, IsShown, Removal, Removes, Texts, either}
 use Rattle.tables.proofs.Forms.{delete_of, finds_of, outs_of, read_as, values_of}

@@ -11,8 +11,9 @@ use Rattle.tables.specs.Keyed.{IsKeyed}
 use Rattle.row_model.specs.declared.table.Table.{Table}
 use Rattle.row_model.specs.declared.row.Group.{Group}
 use Rattle.row_model.specs.Rows.{Cells, are_of, key_in, keyed, kinds_of, shared_by, shared_kinds}
-use Rattle.tables.specs.Table.{Sql, made_here, removal, rules_of, shape_of, sql_of, table_at, value_of, values}
-use Rattle.tables.specs.Writes.{Creates, Enters, Leaves, Puts, entering, goes_on}
+use Rattle.tables.specs.Table.{Sql, made_here, rules_of, shape_of, sql_of, table_at, value_of, values}
+use Rattle.tables.specs.Inside.Table.{entering, removal}
+use Rattle.tables.specs.Writes.{Creates, Enters, Leaves, Puts, goes_on}
 use Rattle.tables.specs.declared.statements.Entering.{Entering}
 use Rattle.tables.specs.declared.statements.Entering.TheVariants.{InPlace, New}
 use Rattle.tables.specs.Inside.Steps.{HasRun, RanQuery}

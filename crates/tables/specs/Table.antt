@@ -23,8 +23,6 @@ use Rattle.sqlite_value.specs.Keys.{plain}
 use Rattle.sqlite_value.specs.declared.keys.Order.{Order}
 use Rattle.row_model.specs.declared.cell.Cell.{Cell}
 use Rattle.row_model.specs.declared.cell.Cell.TheVariants as cell
-use Rattle.row_model.specs.declared.row.Group.{Group}
-use Rattle.row_model.specs.declared.row.Group.TheVariants as group
 use Rattle.row_model.specs.declared.table.Table.{Table}
 use Rattle.row_model.specs.declared.table.Table.TheVariants.{Edition, Supervisor, Project, Student, Round, OldChoice, OldPlacement, Import, RoundAim, Choice, Placement}
 use Rattle.row_model.specs.Rows.{Cells}
@@ -283,9 +281,3 @@ value_of (cell.Bytes bytes) = Bytes bytes
 -- the columns of a row
 abbrev pub values : Cells → Row
 values row = map value_of row
-
--- the text that takes the rows of a group out of their table
-abbrev pub removal : Group → List ℕ
-removal (group.Key table) = (sql_of table).delete
-removal group.List = codes "DELETE FROM choice12 WHERE round = ?1 AND student = ?2"
-removal group.Placed = codes "DELETE FROM placement12 WHERE round = ?1"

@@ -6,8 +6,9 @@ ghost use Rattle.sqlite.specs.Held.{state};
 ghost use Rattle.tables.specs.declared.fault.TableFault.TheVariants.{Storage};
 ghost use Rattle.tables.specs.Causes.{FailsToRead, IsCaused, IsCausedInside, IsMade, IsRefusedIn, IsRunInside, IsStarvedInside, IsTableMade, IsUnmade, IsUnread, OfEntry, OfLeaving};
 ghost use Rattle.row_model.specs.Rows.{are_of, key_in, kinds_of, shared_kinds};
-ghost use Rattle.tables.specs.Table.{made_here, removal, rules_of, sql_of, table_at, values};
-ghost use Rattle.tables.specs.Writes.{Creates, Enters, Leaves, entering};
+ghost use Rattle.tables.specs.Table.{made_here, rules_of, sql_of, table_at, values};
+ghost use Rattle.tables.specs.Inside.Table.{entering};
+ghost use Rattle.tables.specs.Writes.{Creates, Enters, Leaves};
 ghost use Rattle.tables.specs.Steps.{Does, HasStepped, Rests, Shows};
 
 use crate::fault::{TableFault, Wrote};
