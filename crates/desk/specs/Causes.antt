@@ -6,7 +6,7 @@ use Rattle.rolls.specs.declared.request.Request.{Request}
 use Rattle.rolls.specs.State.{State}
 use Rattle.rolls.specs.Rows.{Transforms}
 use Rattle.outside.specs.Changes.{MayChange}
-use Rattle.store.specs.Causes.{IsHinderedToSave}
+use Rattle.store.specs.Causes.{IsHinderedAmong}
 use Rattle.desk.specs.Keeping.{CarriesOut}
 
 -- changes that the request may make, which transform the office into one that it makes of it and add rows of new keys alone, can't be saved
@@ -16,4 +16,4 @@ pub record IsHinderedToAsk (office : State) (request : Request) (limit : Option 
   pub changes : List Change
   pub may : MayChange office request changes
   pub transforms : Transforms changes office next
-  pub hindered : IsHinderedToSave changes limit db
+  pub hindered : IsHinderedAmong changes limit db

@@ -16,7 +16,7 @@ use Rattle.editions.specs.declared.Edition.{Edition as AnEdition}
 use Rattle.store.specs.Editions.{rolls_of}
 use Rattle.store.specs.Reading.{AreAllListed}
 use Rattle.store.proofs.ListedTables.{is_next}
-use Rattle.tables.specs.Table.{sql_of}
+use Rattle.tables.specs.Table.{table_at}
 use Rattle.tables.proofs.Causes.{stopped_after, stopped_as}
 use Rattle.store.specs.declared.fault.StoreFault.TheVariants.{Storage}
 use Rattle.store.specs.Inside.Faults.{of_table}
@@ -56,20 +56,20 @@ unchanged_before H K a b c same survives clean up f = stopped_after H K a b c su
 
 -- a table that cannot be read is one of those of an edition
 pub hindered_reading : (e : AnEdition) (table : Table) (a b : Seen) → AreAllListed (rolls_of e) a.now.schema → Has (Edition ∷ rolls_of e) table
-    → IsStopped (IsUnread (sql_of table).select) a b → IsStopped IsHinderedReading a b
+    → IsStopped (IsUnread (table_at table)) a b → IsStopped IsHinderedReading a b
 hindered_reading e table a b listed among =
-    stopped_as (IsUnread (sql_of table).select) IsHinderedReading a b (λ h. record { edition = e; listed = listed; table = table; among = among; hindered = h })
+    stopped_as (IsUnread (table_at table)) IsHinderedReading a b (λ h. record { edition = e; listed = listed; table = table; among = among; hindered = h })
 
 -- one of the tables of an edition cannot be read, where those before it were
 pub table_unread : (e : AnEdition) (tables : List Table) → tables ≡ rolls_of e → (i : ℕ) (rows : List RowOf) (a b c : Seen) (d : Table) → i < length tables
     → ReadsSome tables i rows a b → Survives a b (λ _. ⊥) → HasCleanDisk b → b.faults ≤ c.faults
-    → IsStopped (IsUnread (sql_of (get_or tables i d)).select) b c → IsStopped (IsHinderedReadingIn e) a c
+    → IsStopped (IsUnread (table_at (get_or tables i d))) b c → IsStopped (IsHinderedReadingIn e) a c
 table_unread e tables are i rows a b c d low some survives clean up stops = elim (cases_Bool a.is_open) [
-  | inl open_before ↦ stopped_after (IsUnread (sql_of (get_or tables i d)).select) (IsHinderedReadingIn e) a b c survives clean up
+  | inl open_before ↦ stopped_after (IsUnread (table_at (get_or tables i d))) (IsHinderedReadingIn e) a b c survives clean up
       (λ h. record {
         table = get_or tables i d;
         among = subst (λ ts. Has ts (get_or tables i d)) are (is_next tables i d low);
-        hindered = subst (IsUnread (sql_of (get_or tables i d)).select a.step_limit) (some.same open_before).0.now_is h;
+        hindered = subst (IsUnread (table_at (get_or tables i d)) a.step_limit) (some.same open_before).0.now_is h;
       }) stops
   | inr shut ↦ record { why = inl shut }
 ]
@@ -84,5 +84,5 @@ rows_unread e a b c listed same survives clean up =
       listed = listed;
       table = h.table;
       among = inr h.among;
-      hindered = subst (IsUnread (sql_of h.table).select a.step_limit) same.0.now_is h.hindered;
+      hindered = subst (IsUnread (table_at h.table) a.step_limit) same.0.now_is h.hindered;
     })

@@ -1,12 +1,11 @@
 -- Each row of a fit office is a row of its table, with UTF-8 texts and small numbers.
 use Rattle.std.proofs.Common.{◌≡◌, inl, inr, List, [], ◌∷◌, Bool, true, false, map, Option, Some, None, is_some, ℕ, zero, suc, ◌<◌, ◌≤◌, ◌+◌, ◌-◌, length, slice_get, IsTrue, IsUtf8, refl, sym, ap, subst, ◌∙◌, arith}
 use Rattle.std.specs.Option.{option_map_or}
-use Rattle.std.specs.List.{AllByRecursion, list_all}
-use Rattle.std.specs.Str.{IsAscii}
+use Rattle.std.specs.List.{AllByRecursion}
+use Rattle.tables.proofs.Unmade.{ascii}
 use Rattle.std.specs.Cmp.{first_so, second_so}
 use Rattle.std.proofs.lemmas.Bool.{eqb-true}
-use Rattle.std.specs.Prelude.{◌==◌, nat_lt}
-use Rattle.std.proofs.lemmas.Bool.Decides.{nat_tests}
+use Rattle.std.specs.Prelude.{◌==◌}
 use Rattle.std.proofs.lemmas.Str.{IsUtf8-from_ascii}
 use Rattle.sqlite_keyed.proofs.ListLemmas.{all_map, all-flat_map, all_weaker}
 use Rattle.sqlite_rules.specs.Lists.{Has}
@@ -55,11 +54,6 @@ all_at : {X : Type 0} (P : X → Type 0) (xs : List X) (i : ℕ) (x : X) → All
 all_at P [] i x all h = absurd (cc)
 all_at P (y ∷ ys) zero x all h = let same : y ≡ x = cc in subst P same all.0
 all_at P (y ∷ ys) (suc i) x all h = all_at P ys i x all.1 h
-
-ascii : (bs : List ℕ) → list_all (λ b. nat_lt b 128) bs ≡ true → IsAscii bs
-ascii [] h i = omega arith
-ascii (b ∷ bs) h zero = let low = first_so (nat_lt b 128) (list_all (λ b. nat_lt b 128) bs) h in grind (arith, nat_tests, low)
-ascii (b ∷ bs) h (suc i) = ascii bs (second_so (nat_lt b 128) (list_all (λ b. nat_lt b 128) bs) h) i
 
 -- the word of a kind is UTF-8
 word_utf8 : (kind : ImportKind) → IsUtf8 (word_of kind)

@@ -7,38 +7,35 @@ use Rattle.row_model.specs.declared.row.Change.{Change}
 use Rattle.row_model.specs.declared.row.Change.TheVariants.{Add, Put, Remove}
 use Rattle.row_model.specs.declared.table.Table.{Table}
 use Rattle.row_model.specs.declared.table.Table.TheVariants.{Edition}
-use Rattle.row_model.specs.Rows.{RowOf}
-use Rattle.tables.specs.Table.{sql_of}
-use Rattle.tables.specs.Causes.{IsHindered, IsUnread, IsUnready, Went}
+use Rattle.row_model.specs.Rows.{RowOf, key_in}
+use Rattle.sqlite.specs.Edit.{Edit}
+use Rattle.tables.specs.declared.statements.Entering.{Entering}
+use Rattle.tables.specs.declared.statements.Entering.TheVariants.{InPlace, New}
+use Rattle.tables.specs.Table.{made_here, table_at}
+use Rattle.tables.specs.Causes.{IsMade, IsRefusedIn, IsTableMade, IsUnmade, IsUnread, OfEntry, OfLeaving}
 use Rattle.sqlite.specs.Order.{Row as Values}
 use Rattle.editions.specs.declared.Edition.{Edition as AnEdition}
 use Rattle.store.specs.Editions.{IsEarlier, beyond, latest, number_of, migrated, rolls_of}
 use Rattle.store.specs.Reading.{AreAllListed}
-use Rattle.store.specs.Rows.{removal, all_tables, values}
+use Rattle.store.specs.Rows.{all_tables, values}
 use Rattle.store.specs.Saving.{AreActedOnAmong}
 use Rattle.store.specs.Tables.{HasNone, StandsIn}
 use Rattle.rolls.specs.State.{State}
 use Rattle.editions.specs.Editions.{AreRowsIn, migrating_changes}
 
--- the statement that makes a change
-abbrev pub text_of : Change → List ℕ
-text_of (Put row) = (sql_of row.table).update
-text_of (Add row) = (sql_of row.table).insert
-text_of (Remove part) = removal part.group
-
--- and its parameters
-abbrev pub params_of : Change → Values
-params_of (Put row) = values row.cells
-params_of (Add row) = values row.cells
-params_of (Remove part) = values part.cells
+-- this holds of the edit of a change
+abbrev pub OfEdit : Change → (Edit → Type 0) → Option ℕ → Database → Type 0
+OfEdit (Put row) = OfEntry InPlace (table_at row.table) (values (key_in row.table row.cells)) (values row.cells)
+OfEdit (Add row) = OfEntry New (table_at row.table) (values (key_in row.table row.cells)) (values row.cells)
+OfEdit (Remove part) = OfLeaving part.group (values part.cells)
 
 -- a change is refused
 abbrev pub IsHinderedChange : Change → Option ℕ → Database → Type 0
-IsHinderedChange change = IsHindered (text_of change) (params_of change)
+IsHinderedChange change limit db = OfEdit change (IsRefusedIn db) limit db
 
 -- a change goes through
 abbrev pub GoesThrough : Change → Option ℕ → Database → Database → Type 0
-GoesThrough change = Went (text_of change) (params_of change)
+GoesThrough change limit db now = OfEdit change (IsMade db now) limit db
 
 -- several go through one after another
 abbrev pub Ran : {X : Type 0} → (X → Option ℕ → Database → Database → Type 0) → List X → Option ℕ → Database → Database → Type 0
@@ -47,11 +44,15 @@ Ran Goes (x ∷ more) limit db now = (mid : Database) × Goes x limit db mid × 
 
 -- these tables are made one after another
 abbrev pub RanTables : List Table → Option ℕ → Database → Database → Type 0
-RanTables = Ran (λ table. Went (sql_of table).create [])
+RanTables = Ran (λ table limit. IsTableMade (made_here table 0))
 
 -- the row of the latest edition
 abbrev pub latest_number : Values
 latest_number = Int (pos 1) ∷ Int (pos (number_of latest)) ∷ []
+
+-- of the edit that brings it into its table so
+abbrev pub OfNumber : Entering → (Edit → Type 0) → Option ℕ → Database → Type 0
+OfNumber way = OfEntry way (table_at Edition) (Int (pos 1) ∷ []) latest_number
 
 -- one of several is refused, once those before it went through
 pub record IsHinderedAfter {X : Type 0} (Goes : X → Option ℕ → Database → Database → Type 0) (IsHinderedAt : X → Option ℕ → Database → Type 0) (all : List X) (limit : Option ℕ) (db : Database) : Type 0 where
@@ -66,19 +67,15 @@ pub record IsHinderedAfter {X : Type 0} (Goes : X → Option ℕ → Database �
 abbrev pub IsHinderedAmong : List Change → Option ℕ → Database → Type 0
 IsHinderedAmong = IsHinderedAfter GoesThrough IsHinderedChange
 
--- a transaction of these changes is refused
-abbrev pub IsHinderedToSave : List Change → Option ℕ → Database → Type 0
-IsHinderedToSave changes limit db = IsUnready limit db ⊎ IsHinderedAmong changes limit db
-
 -- one of these tables is refused, once those before it are made
 abbrev pub IsHinderedMaking : List Table → Option ℕ → Database → Type 0
-IsHinderedMaking = IsHinderedAfter (λ table. Went (sql_of table).create []) (λ table. IsHindered (sql_of table).create [])
+IsHinderedMaking = IsHinderedAfter (λ table limit. IsTableMade (made_here table 0)) (λ table limit. IsUnmade (made_here table 0))
 
 -- the number of the edition is refused, once the tables are made
 pub record IsHinderedNumbering (limit : Option ℕ) (db : Database) : Type 0 where
   pub between : Database
   pub ran : RanTables all_tables limit db between
-  pub hindered : IsHindered (sql_of Edition).insert latest_number limit between
+  pub hindered : OfNumber New (IsRefusedIn between) limit between
 
 -- the tables cannot be made
 abbrev pub IsHinderedCreating : Option ℕ → Database → Type 0
@@ -91,12 +88,12 @@ IsHinderedToAddTables e changes limit db = IsHinderedMaking (beyond e) limit db 
 -- what comes after the number is refused
 pub record IsHinderedBeyond (e : AnEdition) (changes : List Change) (limit : Option ℕ) (db : Database) : Type 0 where
   pub between : Database
-  pub numbered : Went (sql_of Edition).update latest_number limit db between
+  pub numbered : OfNumber InPlace (IsMade db between) limit db
   pub hindered : IsHinderedToAddTables e changes limit between
 
 -- the number of the latest edition is refused, or what comes after it
 abbrev pub IsHinderedToLiftEdition : AnEdition → List Change → Option ℕ → Database → Type 0
-IsHinderedToLiftEdition e changes limit db = IsHindered (sql_of Edition).update latest_number limit db ⊎ IsHinderedBeyond e changes limit db
+IsHinderedToLiftEdition e changes limit db = OfNumber InPlace (IsRefusedIn db) limit db ⊎ IsHinderedBeyond e changes limit db
 
 -- the tables of an earlier edition cannot be migrated by these changes: a foreign key acts on those that change, or a statement is refused
 abbrev pub IsHinderedToMigrate : AnEdition → List Change → Option ℕ → Database → Type 0
@@ -108,7 +105,7 @@ pub record IsHinderedReading (limit : Option ℕ) (db : Database) : Type 0 where
   pub listed : AreAllListed (rolls_of edition) db.schema
   pub table : Table
   pub among : Has (Edition ∷ rolls_of edition) table
-  pub hindered : IsUnread (sql_of table).select limit db
+  pub hindered : IsUnread (table_at table) limit db
 
 -- the tables stand for an office in an earlier edition, and the changes that bring its rows to the latest are refused
 pub record IsHinderedMigrating (limit : Option ℕ) (db : Database) : Type 0 where

@@ -3,7 +3,7 @@ use Rattle.std.specs.Prelude.{List, drop}
 use Rattle.sqlite_rules.specs.Lists.{Has}
 use Rattle.row_model.specs.declared.table.Table.{Table}
 pub use Rattle.row_model.specs.Rows.{all_tables}
-pub use Rattle.tables.specs.Table.{removal, value_of, values}
+pub use Rattle.tables.specs.Table.{value_of, values}
 
 -- those that hold rows of an office, all but the edition; each comes after those that it refers to
 abbrev pub rolls : List Table

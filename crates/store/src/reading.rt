@@ -6,7 +6,7 @@ ghost use Rattle.sqlite.specs.Order.{column};
 ghost use Rattle.sqlite.specs.State.{HasCleanDisk, IsUnchanged, Survives};
 ghost use Rattle.sqlite.specs.Held.{state};
 ghost use Rattle.tables.specs.Causes.{IsCaused, IsUnread};
-ghost use Rattle.tables.specs.Table.{sql_of, table_at};
+ghost use Rattle.tables.specs.Table.{table_at};
 ghost use Rattle.store.specs.Causes.{IsHinderedReading};
 ghost use Rattle.store.specs.Inside.Causes.{IsHinderedReadingIn};
 ghost use Rattle.tables.specs.Steps.{Rests};
@@ -137,7 +137,7 @@ fn read_table<S: Alter>(
     ensures rows { HasCleanDisk (state S.Store conn.new) → IfOk result (λ rows. ReadsTable table rows.items (state S.Store conn.old) (state S.Store conn.new)) }
     ensures damaged { HasCleanDisk (state S.Store conn.new) → result ≡ Err StoreFault.Damaged → IsTrue (state S.Store conn.old).is_open × HoldsNoRow table (state S.Store conn.old).now }
     ensures rests { HasCleanDisk (state S.Store conn.new) → Rests (state S.Store conn.old) (state S.Store conn.new) }
-    ensures cause { IsCaused StoreFault.Storage (IsUnread (sql_of table).select) result (state S.Store conn.old) (state S.Store conn.new) }
+    ensures cause { IsCaused StoreFault.Storage (IsUnread (table_at table)) result (state S.Store conn.old) (state S.Store conn.new) }
     ensures mode { conn.old.in_transaction ≡ false → conn.new.in_transaction ≡ false }
     ensures survives { Survives (state S.Store conn.old) (state S.Store conn.new) (λ _. ⊥) }
 {

@@ -4,10 +4,10 @@ ghost use Rattle.std.specs.Prelude.{◌≡◌, ◌≢◌, IsTrue, false, OnOk, O
 ghost use Rattle.sqlite.specs.Effect.{IsDatabase};
 ghost use Rattle.sqlite.specs.State.{HasCleanDisk, Survives};
 ghost use Rattle.sqlite.specs.Held.{state};
-ghost use Rattle.tables.specs.Causes.{FailsToWrite, IsCaused, IsCausedInside, IsRunInside, IsStarvedInside, IsToldInside};
+ghost use Rattle.tables.specs.Causes.{IsCaused, IsCausedInside, IsRunInside, IsStarvedInside};
 ghost use Rattle.tables.specs.Steps.{Does, HasSaved, HasStepped, IsKept, MayRecoverTo};
 ghost use Rattle.tables.specs.Inside.Steps.{Stays};
-ghost use Rattle.store.specs.Causes.{GoesThrough, IsHinderedAmong, IsHinderedChange, IsHinderedToSave, params_of, text_of};
+ghost use Rattle.store.specs.Causes.{GoesThrough, IsHinderedAmong, IsHinderedChange};
 ghost use Rattle.store.specs.Saving.{Applies, AreActedOn, LeavesOthers, Saves};
 ghost use Rattle.store.specs.Inside.Saving.{AppliesOne};
 
@@ -23,7 +23,7 @@ fn apply<S: Alter>(tx: &mut Transaction<'_, S>, change: &Change) -> Result<(), T
     ensures same_reference { tx.new.conn.ghost_name ≡ tx.old.conn.ghost_name }
     ensures step { Does (HasStepped (AppliesOne change.now)) result (state S.Store tx.old.conn.now) (state S.Store tx.new.conn.now) }
     ensures ran { IsRunInside (GoesThrough change.now) result (state S.Store tx.old.conn.now) (state S.Store tx.new.conn.now) }
-    ensures told { IsToldInside (FailsToWrite (text_of change.now) (params_of change.now)) result (state S.Store tx.old.conn.now) (state S.Store tx.new.conn.now) }
+    ensures starved { IsStarvedInside result (state S.Store tx.old.conn.now) (state S.Store tx.new.conn.now) }
     ensures cause { IsCausedInside (IsHinderedChange change.now) result (state S.Store tx.old.conn.now) (state S.Store tx.new.conn.now) }
 {
     match change {
@@ -54,7 +54,7 @@ pub fn save_all<S: Alter>(conn: &mut Connection<S>, changes: &[Change]) -> Resul
     ensures ok { HasCleanDisk (state S.Store conn.new) → OnOk result (HasSaved (Applies changes.now) (state S.Store conn.old) (state S.Store conn.new)) }
     ensures err { HasCleanDisk (state S.Store conn.new) → OnErr result (IsKept (state S.Store conn.old) (state S.Store conn.new)) }
     ensures faults { result ≢ Err StoreFault.Damaged }
-    ensures cause { conn.old.in_transaction ≡ false → IsCaused StoreFault.Storage (IsHinderedToSave changes.now) result (state S.Store conn.old) (state S.Store conn.new) }
+    ensures cause { conn.old.in_transaction ≡ false → IsCaused StoreFault.Storage (IsHinderedAmong changes.now) result (state S.Store conn.old) (state S.Store conn.new) }
     ensures crash { Survives (state S.Store conn.old) (state S.Store conn.new) (MayRecoverTo (Applies changes.now) (state S.Store conn.old)) }
     ensures ended { conn.old.in_transaction ≡ false → conn.new.in_transaction ≡ false }
     ensures begun { IsTrue conn.old.in_transaction → result ≡ Err StoreFault.Storage }

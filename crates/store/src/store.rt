@@ -5,7 +5,7 @@ ghost use Rattle.sqlite.specs.State.{HasCleanDisk, IsLive, Survives};
 ghost use Rattle.sqlite.specs.Held.{state};
 ghost use Rattle.tables.specs.Steps.{IsKept, MayRecoverTo};
 ghost use Rattle.tables.specs.Causes.{IsCaused};
-ghost use Rattle.store.specs.Causes.{IsHinderedReading, IsHinderedToSave};
+ghost use Rattle.store.specs.Causes.{IsHinderedReading, IsHinderedAmong};
 ghost use Rattle.store.specs.Editions.{IsEarlier, latest};
 ghost use Rattle.store.specs.Inside.Editions.{IsEditionOf};
 ghost use Rattle.store.specs.Tables.{HasNone, StandsFor};
@@ -170,7 +170,7 @@ impl<S: Alter> Store<S> {
         ensures acted_on { AreActedOn (state S.Store self.old).now.schema → result ≡ Err StoreFault.Storage }
 
         // Why else the storage has failed, but for an open transaction: a shut connection, a fault of the disk, or a refused statement.
-        ensures cause { self.old.in_transaction ≡ false → (AreActedOn (state S.Store self.old).now.schema → ⊥) → IsCaused StoreFault.Storage (IsHinderedToSave changes.now) result (state S.Store self.old) (state S.Store self.new) }
+        ensures cause { self.old.in_transaction ≡ false → (AreActedOn (state S.Store self.old).now.schema → ⊥) → IsCaused StoreFault.Storage (IsHinderedAmong changes.now) result (state S.Store self.old) (state S.Store self.new) }
 
         // A crash at any moment of the call.
         ensures crash { Survives (state S.Store self.old) (state S.Store self.new) (MayRecoverTo (Saves changes.now) (state S.Store self.old)) }

@@ -129,7 +129,7 @@ module _ (sql : List ℕ) (shape : TableShape) (rules : Rules) (it : IsCreate sq
   abbrev here : Schema → Place
   here schema = record { tree = next_tree schema; rules = rules }
 
-  create_means : (schema : Schema) → Means schema sql CreateTable sql
+  pub create_means : (schema : Schema) → Means schema sql CreateTable sql
   create_means schema c h =
       let p = planned_of schema sql it.p c it.unlisted it.parsed h in
       let q = rw (it.untimed schema) at p in

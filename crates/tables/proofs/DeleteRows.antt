@@ -1,5 +1,5 @@
 -- DELETE of the rows that the given values find.
-use Rattle.std.proofs.Common.{◌≡◌, ℕ, List, [], ◌∷◌, slice_get, Option, Some, None, Ok, sym, ap, subst, ◌∙◌, Bool, true, not, map, filter}
+use Rattle.std.proofs.Common.{◌≡◌, ℕ, length, List, [], ◌∷◌, slice_get, Option, Some, None, Ok, sym, ap, subst, ◌∙◌, Bool, true, not, map, filter}
 use Rattle.std.specs.List.Sorted.{IsPermutation}
 use Rattle.std.proofs.lemmas.List.Sorted.{IsPermutation-map}
 use Rattle.sqlite_keyed.proofs.ListLemmas.{IsPermutation-filter, map-map}
@@ -34,8 +34,8 @@ use Rattle.tables.proofs.InsertKeyed.{went, same_value}
 use Rattle.tables.proofs.Understood.{IsWriteText, runs_by}
 use Rattle.tables.proofs.RowidsOut.{taken_out, still_keyed, map_filter}
 use Rattle.tables.proofs.InsertRow.{Has, has_listed}
-use Rattle.tables.proofs.QueryRows.{found_program, IsDrafted, drafted_writes, drafted_means, hit, found}
-use Rattle.tables.proofs.SelectAll.{finding}
+use Rattle.tables.proofs.QueryRows.{IsDrafted, drafted_writes, drafted_means, hit, found}
+use Rattle.tables.proofs.SelectAll.{found_program, IsAccepted, IsFirst, finding}
 
 -- A text that deletes, read under any schema that lists a table of this shape, and what its test finds, as the table is STRICT or not, by
 -- parameters of these kinds.
@@ -44,6 +44,9 @@ pub record IsDelete (sql : List ℕ) (shape : TableShape) (kinds : List Kind) (g
   pub tests : Bool → List Term
   pub drafted : IsDrafted sql shape.name (written.Delete shape.name (Some test) []) (λ schema at table. deleted schema at table (Some test)) Delete
   pub draft : (schema : Schema) (at : ℕ) (place : Place) → Has schema shape.name at (made_at shape place) → deleted schema at (made_at shape place) (Some test) ≡ Ok (finding place.tree (tests place.rules.is_strict) (col 1 0 ∷ []))
+  pub counted : (key : Cells) → are_of kinds key ≡ true → length (values key) ≡ length drafted.p.names
+  pub accepted : (schema : Schema) (place : Place) → IsFirst schema (made_at shape place) → IsAccepted schema place.tree (tests place.rules.is_strict) (col 1 0 ∷ []) []
+      × ((key : Cells) → are_of kinds key ≡ true → IsAccepted schema place.tree (tests place.rules.is_strict) (col 1 0 ∷ []) (values key))
   pub hits : (place : Place) (key : Cells) → are_of kinds key ≡ true → (r : Row) → hit (tests place.rules.is_strict) (col 1 0 ∷ []) (values key) r ≡ goes (values key) (cells (made_at shape place) r)
 
 -- what a DELETE does where no foreign key acts

@@ -23,7 +23,7 @@ use Rattle.sqlite_ast.specs.declared.Source.{roll-Source}
 use Rattle.sqlite_ast.specs.declared.Core.{Core, roll-Core}
 use Rattle.sqlite_ast.specs.declared.Select.{Select, roll-Select}
 use Rattle.sqlite_resolve.specs.declared.scope.Output.{Output}
-use Rattle.tables.specs.Table.{TableShape}
+use Rattle.tables.specs.Table.{TableShape, laid_out}
 use Rattle.tables.proofs.KeyTests.{equals, is_parameter}
 use Rattle.tables.proofs.SelectAll.{id_out, key_out, column_out}
 
@@ -87,12 +87,6 @@ counted from (suc count) = from ∷ counted (suc from) count
 abbrev pub columns_out : ℕ → List (List ℕ) → List Output
 columns_out at [] = []
 columns_out at (name ∷ names) = column_out name at ∷ columns_out (suc at) names
-
--- what an INSERT gives, laid out with the rowid first: it is new, or it is the first column, whose own place has NULL
-abbrev pub laid_out : {X : Type 0} → X → Option ℕ → List X → List X
-laid_out null None given = null ∷ given
-laid_out null (Some key) (first ∷ given) = first ∷ null ∷ given
-laid_out null (Some key) [] = []
 
 abbrev outs_by : Option ℕ → List (List ℕ) → List Output
 outs_by (Some key) (name ∷ names) = key_out name false ∷ key_out name true ∷ columns_out 2 names

@@ -1,5 +1,5 @@
 -- What an INSERT of one row does to the rows of a table, and what its text means under any schema.
-use Rattle.std.proofs.Common.{◌≡◌, ℕ, ℤ, ◌+◌, ◌/◌, length, List, [], ◌∷◌, map, slice_get, slice_range, Option, Some, None, Ok, refl, sym, ap, subst, ◌∙◌, false, true, Bool, cond, not, ◌&&◌}
+use Rattle.std.proofs.Common.{◌≡◌, ◌≤◌, ℕ, ℤ, ◌+◌, ◌/◌, length, List, [], ◌∷◌, map, slice_get, slice_range, Option, Some, None, Ok, refl, sym, ap, subst, ◌∙◌, false, true, Bool, cond, not, ◌&&◌}
 use Rattle.std.specs.List.Sorted.{IsPermutation}
 use Rattle.std.proofs.lemmas.Bool.{and_parts}
 use Rattle.std.proofs.lemmas.List.Sorted.{IsPermutation-trans, IsPermutation-cons, IsPermutation-map}
@@ -13,7 +13,9 @@ use Rattle.sqlite.specs.Kind.TheVariants.{Integer, Blob}
 use Rattle.sqlite.specs.Cast.{cast, cast_row}
 use Rattle.sqlite.specs.Ops.{unary}
 use Rattle.sqlite.specs.Tree.{put_row}
-use Rattle.sqlite.specs.Edit.{is_taken, Applies, with_rowid}
+use Rattle.sqlite.specs.Edit.{id_in, is_taken, Applies, with_rowid}
+use Rattle.sqlite_trees.specs.View.{is_int}
+use Rattle.sqlite_rules.proofs.TableLemmas.{int_is}
 use Rattle.sqlite.specs.Effect.{value_rows}
 use Rattle.sqlite.specs.Command.TheVariants.{Insert}
 use Rattle.sqlite.specs.Source.TheVariants.{Values}
@@ -32,13 +34,15 @@ use Rattle.sqlite_ast.specs.declared.Rows.{Rows}
 use Rattle.sqlite_resolve.specs.Lowering.{Checked}
 use Rattle.sqlite_resolve.specs.declared.compiled.Compiled.{Compiled}
 use Rattle.sqlite.specs.Calls.{IsWrite}
+use Rattle.sqlite_typing.specs.Types.{accepts_terms}
 use Rattle.sqlite.specs.Command.{Command}
 use Rattle.row_model.specs.declared.cell.Kind.{Kind}
 use Rattle.row_model.specs.Rows.{Cells, are_of}
-use Rattle.tables.specs.Table.{Place, TableShape, Lists, cells, kind_in, made_at, values as sql_values}
+use Rattle.tables.specs.Table.{Place, TableShape, Lists, cells, kind_in, laid_out, made_at, values as sql_values}
 use Rattle.tables.specs.Keyed.{IsKeyed}
 use Rattle.tables.specs.Writes.{Adds}
 use Rattle.tables.proofs.Places.{listed_along}
+use Rattle.tables.specs.Inside.Causes.{IsWriteOf}
 use Rattle.tables.proofs.Understood.{Means, IsWriteText, runs_by, ends_in_write, on_table_writes, compiles_to_write}
 use Rattle.tables.proofs.InsertKeyed.{insert_does, insert_edit}
 use Rattle.tables.proofs.Puts.{put_row_permutes}
@@ -62,6 +66,9 @@ pub cast_int : (n : ℤ) → cast Integer (Int n) ≡ Int n
 unfolding unary
 cast_int n = either _ (Int n)
 
+pub cast_id : (id : Value) → is_int id ≡ true → cast Integer id ≡ id
+cast_id id int = subst (λ v. cast Integer v ≡ v) (sym (int_is id int)) (cast_int (id_in id))
+
 -- and bytes in a column that was declared to be a BLOB
 pub cast_bytes : (is_strict : Bool) (bytes : List ℕ) → cast (kind_in Blob is_strict) (Bytes bytes) ≡ Bytes bytes
 cast_bytes true bytes = refl
@@ -80,11 +87,11 @@ has_listed schema table listed = record { named = listed.named; there = listed.t
 pub on_table_is : (schema : Schema) (name : List ℕ) (at : ℕ) (table : Table) (f : ℕ → Table → Checked Command) → Has schema name at table → on_table schema name f ≡ f at table
 on_table_is schema name at table f has = rw (has.named, has.there) refl
 
-understood_is : (schema : Schema) (sql : List ℕ) (c : Compiled) → compiled schema sql ≡ Ok c → understood schema sql ≡ Ok c
+pub understood_is : (schema : Schema) (sql : List ℕ) (c : Compiled) → compiled schema sql ≡ Ok c → understood schema sql ≡ Ok c
 unfolding understood
 understood_is schema sql c h = rw h refl
 
-compiled_is : (schema : Schema) (sql : List ℕ) (p : Parsed) (formats : List (List ℕ)) (shown : Option Returning) (c : Command) → first sql ≡ Ok p → timed schema p.formats p.statement ≡ formats
+pub compiled_is : (schema : Schema) (sql : List ℕ) (p : Parsed) (formats : List (List ℕ)) (shown : Option Returning) (c : Command) → first sql ≡ Ok p → timed schema p.formats p.statement ≡ formats
     → returning schema (small p.names + small formats) p.statement ≡ Ok shown → command schema p.formats (small p.names + small formats) p.statement ≡ Ok c → compiled schema sql ≡ Ok (with_command p (formats, (c, shown)))
 unfolding compiled planned meaning
 compiled_is schema sql p formats shown c parsed is_timed shows commands = rw (parsed, is_timed, shows, commands) refl
@@ -92,6 +99,8 @@ compiled_is schema sql p formats shown c parsed is_timed shows commands = rw (pa
 -- with these parameters the terms are one row, whose columns are given
 pub record IsGiven (made : Table) (params : Row) (terms : List Term) (width : ℕ) (given : Row) : Type 0 where
   pub source : Row
+  pub is : source ≡ laid_out Null made.key given
+  pub cast : cast_row made source ≡ source
   pub one : value_rows params width (length terms / width) terms ≡ source ∷ []
   pub shown : (here : List Row) → cells made (with_rowid Chosen here (cast_row made source)) ≡ given
 
@@ -108,6 +117,9 @@ pub record IsInsert (sql : List ℕ) (shape : TableShape) (kinds : List Kind) : 
   pub plain : p.formats ≡ []
   pub laid : (schema : Schema) (place : Place) → new_rows schema (made_at shape place) (small p.names + small []) columns values ≡ Ok (Values terms width)
   pub whole : slice_range sql p.start p.end ≡ sql
+  pub ends : length sql ≤ p.tail
+  pub counted : (row : Cells) → are_of kinds row ≡ true → length (sql_values row) ≡ length p.names
+  pub typed : (row : Cells) → are_of kinds row ≡ true → accepts_terms terms (sql_values row) ≡ true
   pub given : (place : Place) (row : Cells) → are_of kinds row ≡ true → IsGiven (made_at shape place) (sql_values row) terms width (sql_values row)
 
 module _ (sql : List ℕ) (shape : TableShape) (kinds : List Kind) (it : IsInsert sql shape kinds) (schema : Schema) (at : ℕ) (place : Place)
@@ -129,6 +141,15 @@ module _ (sql : List ℕ) (shape : TableShape) (kinds : List Kind) (it : IsInser
 
   compiles : understood schema sql ≡ Ok (with_command it.p ([], (Insert at (Values it.terms it.width), None)))
   compiles = understood_is schema sql _ (compiled_is schema sql it.p [] None _ it.parsed (rw (it.plain, it.statement) no_time) (rw it.statement (shows_none _)) (rw (it.plain, it.statement) commands))
+
+  -- under this schema the text is the INSERT at the table's position
+  pub insert_text : (row : Cells) → are_of kinds row ≡ true → IsWriteOf schema sql (sql_values row) (Insert at (Values it.terms it.width))
+  insert_text row fits = record {
+    text = record { meant = with_command it.p ([], (Insert at (Values it.terms it.width), None)); is = compiles; whole = it.ends; counted = it.counted row fits; plain = refl };
+    silent = refl;
+    runs = refl;
+    writes = tt;
+  }
 
   -- the text means the INSERT at the table's position
   pub insert_means : Means schema sql (Insert at (Values it.terms it.width)) sql

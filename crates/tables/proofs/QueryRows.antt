@@ -1,5 +1,5 @@
 -- The rows that a statement over one table finds.
-use Rattle.std.proofs.Common.{◌≡◌, ℕ, List, [], ◌∷◌, ◌++◌, slice_range, None, Ok, Err, ap, refl, sym, subst₂, ◌∙◌, false, Bool, true, if◌then◌else◌, cond, map, filter}
+use Rattle.std.proofs.Common.{◌≡◌, ◌≤◌, length, ℕ, List, [], ◌∷◌, ◌++◌, slice_range, None, Ok, Err, ap, refl, sym, subst₂, ◌∙◌, false, Bool, true, if◌then◌else◌, cond, map, filter}
 use Rattle.std.specs.List.{flat_map, list_all}
 use Rattle.std.specs.List.Sorted.{IsPermutation}
 use Rattle.std.proofs.lemmas.List.Sorted.{IsPermutation-map}
@@ -16,8 +16,8 @@ use Rattle.sqlite.specs.Effect.{Database, Answers}
 use Rattle.sqlite.specs.Schema.{Schema}
 use Rattle.sqlite.specs.Table.{Table}
 use Rattle.sqlite.specs.Calls.{IsWrite}
-use Rattle.sqlite.specs.Compile.{compiled, first, timed, returning, command, on_table}
-use Rattle.sqlite.specs.Listing.{listing_schema, if_select}
+use Rattle.sqlite.specs.Compile.{compiled, first, timed, returning, command, on_table, with_command}
+use Rattle.sqlite.specs.Listing.{listing_schema, if_select, understood}
 use Rattle.sqlite.specs.State.{text_of}
 use Rattle.sqlite_syntax.specs.declared.statement.Parsed.{Parsed}
 use Rattle.sqlite_ast.specs.declared.Statement.{Statement}
@@ -27,11 +27,9 @@ use Rattle.sqlite_resolve.specs.declared.compiled.Compiled.{Compiled}
 use Rattle.sqlite_resolve.specs.declared.error.CompileError.TheVariants.{NoSuchTable}
 use Rattle.tables.specs.Table.{Place, TableShape, Lists, made_at}
 use Rattle.tables.proofs.Understood.{planned_of, Means, IsWriteText, and_then_ok, ends_in_write, on_table_writes, compiles_to_write}
-use Rattle.tables.proofs.InsertRow.{has_listed, on_table_is}
-use Rattle.tables.proofs.SelectAll.{finding, no_overlay, found_query}
-
-abbrev pub found_program : ℕ → List Term → List Term → Program
-found_program tree tests project = record { lets = []; body = found_query tree tests project }
+use Rattle.tables.specs.Inside.Causes.{IsWriteOf}
+use Rattle.tables.proofs.InsertRow.{compiled_is, has_listed, on_table_is, understood_is}
+use Rattle.tables.proofs.SelectAll.{IsAccepted, found_program, finding, no_overlay, found_query}
 
 -- a program that is accepted is the command's
 pub accepted : (b : Bool) (p : Program) (f : Program → Command) (k : Command) → ◌≡◌ {A = Checked Command} (and_then (if b then Ok p else Err Mismatch) (λ p. Ok (f p))) (Ok k) → k ≡ f p
@@ -45,6 +43,7 @@ pub record IsDrafted (sql name : List ℕ) (s : Statement) (draft : Schema → �
   pub statement : p.statement ≡ s
   pub plain : p.formats ≡ []
   pub whole : slice_range sql p.start p.end ≡ sql
+  pub ends : length sql ≤ p.tail
   pub unlisted : if_select (compiled listing_schema sql) ≡ Err NoSuchTable
   pub untimed : (schema : Schema) → timed schema [] s ≡ []
   pub shows : (schema : Schema) (base : ℕ) → returning schema base s ≡ Ok None
@@ -73,6 +72,22 @@ module _ (sql : List ℕ) (shape : TableShape) (s : Statement) (draft : Schema �
         let k = found_command _ q.1 q.3 in
         let none : q.0 ≡ None = let e = sym q.2 ∙ it.shows schema _ in cc in
         (ap (λ (it : Compiled). it.command) q.4 ∙ k, ap (λ (it : Compiled). it.returning) q.4 ∙ none, ap (λ (it : Compiled). it.formats) q.4, ap (text_of sql) q.4 ∙ it.whole)
+
+  module _ (schema : Schema) (place : Place) (tests project : List Term) (listed : Lists schema (made_at shape place))
+      (drafts : draft schema listed.at (made_at shape place) ≡ Ok (finding place.tree tests project)) (typed : IsAccepted schema place.tree tests project []) where
+    commands_so : (base : ℕ) → command schema [] base s ≡ Ok (make listed.at (found_program place.tree tests project))
+    unfolding program
+    commands_so base = it.commands schema base ∙ on_table_is schema shape.name listed.at (made_at shape place) _ (has_listed schema (made_at shape place) listed) ∙ rw drafts (rw typed refl)
+
+    abbrev meant : Compiled
+    meant = with_command it.p ([], (make listed.at (found_program place.tree tests project), None))
+
+    compiles : understood schema sql ≡ Ok meant
+    compiles = understood_is schema sql _ (compiled_is schema sql it.p [] None _ it.parsed (rw (it.plain, it.statement) (it.untimed schema)) (rw it.statement (it.shows schema _)) (rw (it.plain, it.statement) (commands_so _)))
+
+    -- under this schema the text is the command over the rows that these tests find
+    pub drafted_text : (given : Row) → length given ≡ length it.p.names → IsWrite (make listed.at (found_program place.tree tests project)) → IsWriteOf schema sql given (make listed.at (found_program place.tree tests project))
+    drafted_text given counted writes = record { text = record { meant = meant; is = compiles; whole = it.ends; counted = counted; plain = refl }; silent = refl; runs = refl; writes = writes }
 
 module _ (tests project : List Term) (params : Row) where
   -- whether the tests find a row

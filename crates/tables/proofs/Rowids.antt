@@ -73,6 +73,10 @@ along = along_permutation Along (λ xs. (λ h. h, λ y h. h))
 pub keyed_permuted : (xs ys : List Row) → IsPermutation xs ys → IsKeyed xs → IsKeyed ys
 keyed_permuted xs ys same = (along xs ys same).0
 
+-- and have no other rows
+pub permuted_has : (xs ys : List Row) → IsPermutation xs ys → (y : Row) → Has ys y → Has xs y
+permuted_has xs ys same = (along xs ys same).1
+
 -- no row passes a test that none passes
 pub none_has : {X : Type 0} (q : X → Bool) (xs : List X) (x : X) → list_any q xs ≡ false → Has xs x → q x ≡ false
 none_has q [] x none h = absurd h

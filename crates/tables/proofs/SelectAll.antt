@@ -1,5 +1,5 @@
 -- SELECT of the columns of a whole table, under any schema that lists it.
-use Rattle.std.proofs.Common.{◌≡◌, ℕ, List, [], ◌∷◌, codes, slice_get, slice_range, Some, None, Ok, Err, refl, sym, ap, subst, ◌∙◌, false, true, drop, pos, negsuc, Bool, if◌then◌else◌, map, unwrap_or, nat_le, nat_lt, ◌-◌, ◌^◌, subst₂, append-nil}
+use Rattle.std.proofs.Common.{◌≡◌, ◌≤◌, ◌==◌, find, length, ℕ, List, [], ◌∷◌, codes, slice_get, slice_range, Some, None, Ok, Err, refl, sym, ap, subst, ◌∙◌, false, true, drop, pos, negsuc, Bool, if◌then◌else◌, map, unwrap_or, nat_le, nat_lt, ◌-◌, ◌^◌, subst₂, append-nil}
 use Rattle.sqlite.specs.Schema.{Schema}
 use Rattle.sqlite.specs.Compile.{compiled, first, timed, returning, command, read}
 use Rattle.sqlite_syntax.specs.declared.statement.Parsed.{Parsed}
@@ -38,6 +38,9 @@ use Rattle.tables.proofs.Understood.{planned_of, compiled_of, Means}
 use Rattle.std.specs.List.Sorted.{IsPermutation}
 use Rattle.std.proofs.lemmas.List.Sorted.{IsPermutation-map, IsPermutation-sym, IsPermutation-trans}
 use Rattle.std.proofs.lemmas.List.Concat.{flat_map_single}
+use Rattle.sqlite.specs.Table.{Table}
+use Rattle.sqlite_schema.specs.Program.{lets_of}
+use Rattle.sqlite_typing.specs.Types.{accepts_program}
 use Rattle.sqlite.specs.Tree.{Trees}
 use Rattle.sqlite.specs.Order.{Row}
 use Rattle.sqlite.specs.Effect.{Database, Reads}
@@ -91,6 +94,7 @@ pub record IsPlainSelect (sql : List ℕ) : Type 0 where
   pub no_having : (out-Core (out-Select s).first).having ≡ None
   pub no_distinct : (out-Core (out-Select s).first).distinct ≡ false
   pub whole : slice_range sql p.start p.end ≡ sql
+  pub ends : length sql ≤ p.tail
   pub from : (q : Schema → Select → Building Shown) (schema : Schema) (lets : List Let) → sources q schema (out-Core (out-Select s).first).from lets ≡ Ok (schema, lets)
 
 module _ (q : Schema → Select → Building Shown) (schema : Schema) (core : Core) (page : Page) (shown : Shown) (is : named schema core [] page ≡ Ok shown) (lets : List Let)
@@ -173,6 +177,18 @@ names outs = map (λ (o : Output). o.name) outs
 abbrev pub whole_query : ℕ → List Output → Query
 whole_query tree outs = found_query tree [] (map (λ (o : Output). o.term) outs)
 
+abbrev pub found_program : ℕ → List Term → List Term → Program
+found_program tree tests project = record { lets = []; body = found_query tree tests project }
+
+-- the table is the first in its tree, which a query reads
+pub record IsFirst (schema : Schema) (table : Table) : Type 0 where
+  pub low : nat_le (2 ^ 31) table.tree ≡ false
+  pub first : find (λ (t : Table). t.tree == table.tree) schema.tables ≡ Some table
+
+-- its types are accepted, with these parameters
+abbrev pub IsAccepted : Schema → ℕ → List Term → List Term → Row → Type 0
+IsAccepted schema tree tests project params = let p = found_program tree tests project in accepts_program schema (lets_of p) p.body params ≡ true
+
 -- what a core of one table and these columns is resolved to
 pub record IsResolved (schema : Schema) (core : Core) (name : List ℕ) (at tree budget : ℕ) (outs : List Output) : Type 0 where
   pub bounds : bounds schema (out-Core core).from (fresh 1 max_budget) ≡ Ok (bounds_at name at, started)
@@ -207,6 +223,7 @@ pub record IsSelect (sql : List ℕ) (shape : TableShape) : Type 0 where
   pub budget : ℕ
   pub outs : List Output
   pub resolved : (schema : Schema) (place : Place) (listed : Lists schema (made_at shape place)) → nat_lt place.tree (2 ^ 31) ≡ true → IsResolved schema (out-Select plain.s).first shape.name listed.at place.tree budget outs
+  pub accepted : (schema : Schema) (place : Place) → IsFirst schema (made_at shape place) → IsAccepted schema place.tree [] (map (λ (o : Output). o.term) outs) []
   pub shows : (place : Place) (r : Row) → eval_all (map (λ (o : Output). o.term) outs) ([] ∷ r ∷ []) ≡ shown (made_at shape place) r
 
 accepted : (b : Bool) (p : Program) (names : List (List ℕ)) (k : Command)
@@ -218,7 +235,7 @@ module _ (sql : List ℕ) (shape : TableShape) (it : IsSelect sql shape) (schema
   abbrev core : Core
   core = (out-Select it.plain.s).first
 
-  abbrev whole_command : Command
+  abbrev pub whole_command : Command
   whole_command = command.Select (record { lets = []; body = whole_query place.tree it.outs }) (names it.outs)
 
   read_is : (k : Command) → command schema [] 0 (written.Select it.plain.s) ≡ Ok k → k ≡ whole_command
@@ -244,7 +261,7 @@ no_overlay trees t = by_bool (nat_le (2 ^ 31) t)
     by_bool false = refl
 
 -- the rows of a query that went through, whose text is that of a SELECT
-unlisted_of : (schema : Schema) (sql : List ℕ) (c : Compiled) → compiled schema sql ≡ Ok c → reads_listing schema sql ≡ false
+pub unlisted_of : (schema : Schema) (sql : List ℕ) (c : Compiled) → compiled schema sql ≡ Ok c → reads_listing schema sql ≡ false
 unlisted_of schema sql c h = rw h refl
 
 -- what a text shows is the answer of the query that it means
@@ -263,7 +280,7 @@ module _ (sql : List ℕ) (shape : TableShape) (it : IsSelect sql shape) where
   shows_each place [] = refl
   shows_each place (r ∷ rows) = λ i. it.shows place r i ∷ shows_each place rows i
 
-  answers : (db : Database) (place : Place) (rows : List Row) → Reads (command.Select (record { lets = []; body = whole_query place.tree it.outs }) (names it.outs)) db [] rows
+  pub answers : (db : Database) (place : Place) (rows : List Row) → Reads (command.Select (record { lets = []; body = whole_query place.tree it.outs }) (names it.outs)) db [] rows
       → IsPermutation (map (shown (made_at shape place)) (db.trees place.tree)) rows
   answers db place rows reads =
       let tree = place.tree in

@@ -1,6 +1,6 @@
 -- The texts of a table mean what its row declares. A table gives `Texts`: that its texts are read as the forms of its shape, and what
 -- these are resolved to over the table, which the resolver computes of the literal texts. The rest is here, once for all tables.
-use Rattle.std.proofs.Common.{◌≡◌, ℕ, ℤ, suc, ◌/◌, slice_get, ◌^◌, List, [], ◌∷◌, length, map, take, slice_range, arith, nat_lt, pos, Bool, true, false, None, Some, Ok, Err, refl, ap}
+use Rattle.std.proofs.Common.{◌≡◌, ℕ, ℤ, suc, ◌/◌, slice_get, ◌^◌, List, [], ◌∷◌, length, map, take, drop, slice_range, arith, nat_lt, pos, Bool, true, false, None, Some, Ok, Err, refl, ap}
 use Rattle.std.proofs.lemmas.List.{take_all}
 use Rattle.sqlite.specs.declared.types.Value.TheVariants.{Null, Int, Text as Words, Blob}
 use Rattle.sqlite.specs.Order.{Row}
@@ -39,16 +39,17 @@ use Rattle.row_model.specs.declared.cell.Kind.TheVariants as kind
 use Rattle.row_model.specs.declared.row.Group.TheVariants.{Key}
 use Rattle.row_model.specs.declared.table.Table.{Table}
 use Rattle.row_model.specs.Rows.{Cells, are_of, keyed, kinds_of, shared_kinds}
-use Rattle.tables.specs.Table.{TableShape, Sql, Place, Lists, rules_of, shape_of, sql_of, table_at, cells, values}
+use Rattle.tables.specs.Table.{TableShape, Sql, Place, Lists, laid_out, rules_of, shape_of, sql_of, table_at, cells, values}
 use Rattle.tables.specs.Writes.{begins_with, goes_on}
 use Rattle.tables.proofs.CreateTable.{IsCreate, made_command}
 use Rattle.tables.proofs.InsertRow.{IsInsert}
+use Rattle.sqlite_typing.specs.Types.{accepts_terms}
 use Rattle.tables.proofs.QueryRows.{hit}
-use Rattle.tables.proofs.SelectAll.{finding}
+use Rattle.tables.proofs.SelectAll.{IsAccepted, IsFirst, finding}
 use Rattle.tables.proofs.DeleteRows.{IsDelete}
 use Rattle.tables.proofs.UpdateRow.{IsUpdate, showing}
 use Rattle.tables.proofs.SelectAll.{IsPlainSelect, IsResolved, IsSelect, bounds_at, started, spent}
-use Rattle.tables.proofs.Forms.{read_as, laid_out, width, create_of, names_of, given_rows, insert_of, terms_of, test_of, finds_of, delete_of, sets_of, values_of, update_of, core_of, select_of, outs_of}
+use Rattle.tables.proofs.Forms.{read_as, width, create_of, names_of, given_rows, insert_of, terms_of, test_of, finds_of, delete_of, sets_of, values_of, update_of, core_of, select_of, outs_of}
 
 -- this holds of each row of these kinds
 abbrev pub Each : List Kind → (Row → Type 0) → Type 0
@@ -81,6 +82,11 @@ module _ (table : Table) where
   -- a row that is given is added as it is, found by its key, and shown where it is set
   pub record Gives (place : Place) (row : Row) : Type 0 where
     pub one : value_rows row (suc (width shape)) (length (terms_of shape) / suc (width shape)) (terms_of shape) ≡ laid_out Null shape.key row ∷ []
+    pub counted : length row ≡ length (read_as said.insert (insert_of shape) (width shape)).names
+    pub typed : accepts_terms (terms_of shape) row ≡ true
+    pub cast : cast_row (table_at table place) (laid_out Null shape.key row) ≡ laid_out Null shape.key row
+    pub put : (r : Row) → is_int (rowid r) ≡ true → hit (finds_of shape place.rules.is_strict 0 (keyed table)) (showing (values_of shape)) row r ≡ true
+        → cast_row (table_at table place) (rowid r ∷ eval_all (values_of shape) (row ∷ r ∷ [])) ≡ rowid r ∷ drop 1 (laid_out Null shape.key row)
     pub added : (here : List Row) → cells (table_at table place) (with_rowid Chosen here (cast_row (table_at table place) (laid_out Null shape.key row))) ≡ row
     pub finds : (r : Row) → hit (finds_of shape place.rules.is_strict 0 (keyed table)) (showing (values_of shape)) row r ≡ begins_with (take (keyed table) row) (cells (table_at table place) r)
     pub set : (r : Row) → is_int (rowid r) ≡ true → hit (finds_of shape place.rules.is_strict 0 (keyed table)) (showing (values_of shape)) row r ≡ true
@@ -109,6 +115,12 @@ module _ (table : Table) where
     pub removal : Removes schema at place 0 (keyed table)
     pub change : updated schema at (table_at table place) (sets_of shape) (Some (test_of shape 0 (keyed table))) ≡ Ok (finding place.tree (finds_of shape place.rules.is_strict 0 (keyed table)) (showing (values_of shape)))
 
+  -- Where the table is the first in its tree, what these tests find is accepted: with no parameters, and with those of these kinds.
+  abbrev pub AreAccepted : ℕ → ℕ → List Term → List Kind → Bool → Type 0
+  AreAccepted before count project kinds is_strict =
+      (schema : Schema) (place : Place) → place.rules.is_strict ≡ is_strict → IsFirst schema (table_at table place)
+      → IsAccepted schema place.tree (finds_of shape is_strict before count) project [] × Each kinds (λ given. IsAccepted schema place.tree (finds_of shape is_strict before count) project given)
+
   -- this holds where a schema has the table at a position, which is STRICT or not
   abbrev pub Anywhere : (Schema → ℕ → Place → Type 0) → Bool → Type 0
   Anywhere P is_strict =
@@ -128,7 +140,9 @@ module _ (table : Table) where
   pub record Texts : Type 0 where
     pub read : AreRead
     pub tested : (is_strict : Bool) → Anywhere AreTested is_strict
+    pub typed : (is_strict : Bool) → AreAccepted 0 (keyed table) (showing (values_of shape)) (kinds_of table) is_strict
     pub all : IsShown
+    pub seen : (schema : Schema) (place : Place) → IsFirst schema (table_at table place) → IsAccepted schema place.tree [] (map (λ (o : Output). o.term) (outs_of shape)) []
     pub rows : (place : Place) → Each (kinds_of table) (Gives place)
 
   -- What a text gives that takes rows away by columns of these kinds after this many others: how it is read and resolved, and which rows
@@ -137,10 +151,12 @@ module _ (table : Table) where
     pub count : ℕ
     pub read : first sql ≡ Ok (read_as sql (delete_of shape before count) count)
     pub tested : (is_strict : Bool) → Anywhere (λ schema at place. Removes schema at place before count) is_strict
+    pub counted : Each kinds (λ key. length key ≡ length (read_as sql (delete_of shape before count) count).names)
+    pub typed : (is_strict : Bool) → AreAccepted before count (col 1 0 ∷ []) kinds is_strict
     pub keys : (place : Place)
         → Each kinds (λ key. (r : Row) → hit (finds_of shape place.rules.is_strict before count) (col 1 0 ∷ []) key r ≡ goes_on before key (cells (table_at table place) r))
 
-read_whole : (sql : List ℕ) → slice_range sql 0 (length sql) ≡ sql
+pub read_whole : (sql : List ℕ) → slice_range sql 0 (length sql) ≡ sql
 read_whole sql = take_all _ sql (omega arith)
 
 -- what is no query is none on `sqlite_schema`
@@ -148,6 +164,10 @@ not_select : (p : Parsed) (r : Checked Command) → ((k : Command) → r ≡ Ok 
     → if_select (and_then (and_then (and_then r (λ does. Ok (does, None))) (λ found. Ok ([], found))) (λ plan. Ok (with_command p plan))) ≡ Err NoSuchTable
 not_select p (Ok k) other = rw (other k refl) refl
 not_select p (Err e) other = refl
+
+-- some place
+abbrev nowhere : Place
+nowhere = record { tree = 0; rules = record { is_strict = true; bare = []; checks = [] } }
 
 module _ (table : Table) (it : Texts table) where
   abbrev told : TableShape
@@ -189,10 +209,18 @@ module _ (table : Table) (it : Texts table) where
     plain = refl;
     laid = λ schema place. it.read.laid schema place _;
     whole = read_whole (said table).insert;
+    ends = omega arith;
+    counted = λ row is. (by_kinds (kinds_of table) (Gives table nowhere) (it.rows nowhere) row is).counted;
+    typed = λ row is. (by_kinds (kinds_of table) (Gives table nowhere) (it.rows nowhere) row is).typed;
     given = λ place row is.
         let gives = by_kinds (kinds_of table) (Gives table place) (it.rows place) row is in
-        record { source = laid_out Null told.key (values row); one = gives.one; shown = gives.added };
+        record { source = laid_out Null told.key (values row); is = refl; cast = gives.cast; one = gives.one; shown = gives.added };
   }
+
+  -- what holds of each row of kinds holds of cells that are of them
+  accepted_of : (before count : ℕ) (project : List Term) (kinds : List Kind) → ((is_strict : Bool) → AreAccepted table before count project kinds is_strict) → (schema : Schema) (place : Place) → IsFirst schema (table_at table place)
+      → IsAccepted schema place.tree (finds_of told place.rules.is_strict before count) project [] × ((row : Cells) → are_of kinds row ≡ true → IsAccepted schema place.tree (finds_of told place.rules.is_strict before count) project (values row))
+  accepted_of before count project kinds typed schema place first = let both = typed place.rules.is_strict schema place refl first in (both.0, by_kinds kinds _ both.1)
 
   -- a text that takes rows away
   pub removal_is : (sql : List ℕ) (before : ℕ) (kinds : List Kind) → Removal table sql before kinds → IsDelete sql told kinds (goes_on before)
@@ -200,8 +228,10 @@ module _ (table : Table) (it : Texts table) where
   removal_is sql before kinds removal = record {
     test = test_of told before removal.count;
     tests = λ is_strict. finds_of told is_strict before removal.count;
-    drafted = record { p = read_as sql (delete_of told before removal.count) removal.count; parsed = removal.read; statement = refl; plain = refl; whole = read_whole sql; unlisted = rw (removal.read, it.read.unlisted) refl; untimed = λ schema. refl; shows = λ schema base. refl; commands = λ schema base. refl };
+    drafted = record { p = read_as sql (delete_of told before removal.count) removal.count; parsed = removal.read; statement = refl; plain = refl; whole = read_whole sql; ends = omega arith; unlisted = rw (removal.read, it.read.unlisted) refl; untimed = λ schema. refl; shows = λ schema base. refl; commands = λ schema base. refl };
     draft = λ schema at place has. removal.tested place.rules.is_strict schema at place.tree place.rules.bare place.rules.checks has.there;
+    counted = by_kinds kinds _ removal.counted;
+    accepted = accepted_of before removal.count (col 1 0 ∷ []) kinds removal.typed;
     hits = λ place. by_kinds kinds _ (removal.keys place);
   }
 
@@ -213,9 +243,12 @@ module _ (table : Table) (it : Texts table) where
     test = test_of told 0 (keyed table);
     tests = λ is_strict. finds_of told is_strict 0 (keyed table);
     values = values_of told;
-    drafted = record { p = read_as (said table).update (update_of told (keyed table)) (width told); parsed = it.read.update; statement = refl; plain = refl; whole = read_whole (said table).update; unlisted = rw (it.read.update, it.read.unlisted) refl; untimed = λ schema. refl; shows = λ schema base. refl; commands = λ schema base. refl };
+    drafted = record { p = read_as (said table).update (update_of told (keyed table)) (width told); parsed = it.read.update; statement = refl; plain = refl; whole = read_whole (said table).update; ends = omega arith; unlisted = rw (it.read.update, it.read.unlisted) refl; untimed = λ schema. refl; shows = λ schema base. refl; commands = λ schema base. refl };
     draft = λ schema at place has. (it.tested place.rules.is_strict schema at place.tree place.rules.bare place.rules.checks has.there).change;
+    counted = λ row is. (by_kinds (kinds_of table) (Gives table nowhere) (it.rows nowhere) row is).counted;
+    accepted = accepted_of 0 (keyed table) (showing (values_of told)) (kinds_of table) it.typed;
     hits = λ place row is. (by_kinds (kinds_of table) (Gives table place) (it.rows place) row is).finds;
+    put = λ place row is. (by_kinds (kinds_of table) (Gives table place) (it.rows place) row is).put;
     set = λ place row is. (by_kinds (kinds_of table) (Gives table place) (it.rows place) row is).set;
   }
 
@@ -237,6 +270,7 @@ module _ (table : Table) (it : Texts table) where
     no_having = refl;
     no_distinct = refl;
     whole = read_whole (said table).select;
+    ends = omega arith;
     from = λ q schema lets. refl;
   }
 
@@ -262,5 +296,6 @@ module _ (table : Table) (it : Texts table) where
     budget = 99999;
     outs = outs_of told;
     resolved = select_resolved;
+    accepted = it.seen;
     shows = it.read.shows;
   }

@@ -1,7 +1,8 @@
 -- What the statements of each table do.
-use Rattle.std.proofs.Common.{◌≡◌, inl, inr, sym, ◌∙◌, ℕ, List, [], subst, true, Result, Ok, Err, IfOk, Vec}
+use Rattle.std.proofs.Common.{◌≡◌, ℕ, take, List, [], subst, true, Option, Result, Ok, Err, IfOk, Vec}
 use Rattle.std.proofs.lemmas.List.{take-map}
 use Rattle.std.specs.declared.alloc.Global.{Global}
+use Rattle.sqlite.specs.Effect.{Database}
 use Rattle.sqlite.specs.Order.{Row}
 use Rattle.sqlite.specs.State.{State, Executes, Shown, CommitsShowing}
 use Rattle.sqlite.specs.Tree.{Trees}
@@ -10,8 +11,9 @@ use Rattle.tables.specs.Keyed.{IsKeyed}
 use Rattle.row_model.specs.declared.table.Table.{Table}
 use Rattle.row_model.specs.declared.row.Group.{Group}
 use Rattle.row_model.specs.Rows.{Cells, are_of, key_in, keyed, kinds_of, shared_by, shared_kinds}
-use Rattle.tables.specs.Table.{Sql, removal, rules_of, shape_of, sql_of, table_at, value_of, values}
-use Rattle.tables.specs.Writes.{Creates, Enters, Leaves, Puts, entering, goes_on}
+use Rattle.tables.specs.Table.{Sql, made_here, rules_of, shape_of, sql_of, table_at, value_of, values}
+use Rattle.tables.specs.Inside.Table.{entering, removal}
+use Rattle.tables.specs.Writes.{Creates, Enters, Leaves, Puts, goes_on}
 use Rattle.tables.specs.declared.statements.Entering.{Entering}
 use Rattle.tables.specs.declared.statements.Entering.TheVariants.{InPlace, New}
 use Rattle.tables.specs.Inside.Steps.{HasRun, RanQuery}
@@ -22,23 +24,21 @@ use Rattle.tables.proofs.UpdateRow.{update_puts, update_writes}
 use Rattle.tables.proofs.DeleteRows.{IsDelete, delete_removes, delete_writes}
 use Rattle.tables.proofs.SelectAll.{read_shows, select_commits, select_rests}
 use Rattle.tables.proofs.Runs.{stepped_by}
-use Rattle.tables.proofs.Understood.{IsWriteText, written}
+use Rattle.tables.proofs.Understood.{IsWriteText}
 use Rattle.tables.proofs.Texts.{create_is, insert_is, update_is, select_is, removal_is}
-use Rattle.tables.proofs.Tables.{group_text, texts}
-use Rattle.tables.proofs.Causes.{unordered, unread}
-use Rattle.tables.specs.Causes.{FailsToRead, IsStopped, IsUnread, ShowsInOrder, Went}
+use Rattle.tables.proofs.Tables.{are_makable, group_text, texts}
+use Rattle.tables.proofs.Unmade.{table_made, unmade}
+use Rattle.tables.proofs.Unread.{unread_rows}
+use Rattle.tables.proofs.Refused.{delete_made, delete_refused, insert_made, insert_refused, update_made, update_refused}
+use Rattle.sqlite.specs.Edit.{Edit}
+use Rattle.tables.specs.Causes.{FailsToRead, IsMade, IsRefusedIn, IsStopped, IsTableMade, IsUnmade, OfEntry, OfLeaving, IsUnread, ShowsInOrder}
+use Rattle.tables.specs.Inside.Causes.{IsHindered}
 use Rattle.tables.specs.declared.fault.TableFault.TheVariants.{Storage}
 
 module _ (table : Table) (told : Sql) (is : told ≡ sql_of table) (old new : State) (count : ℕ) where
   -- the table was made
   pub created : HasRun told.create [] count old new → HasStepped (Creates (table_at table) (rules_of table) []) old new
   created run = stepped_by _ _ _ _ _ _ (create_writes (sql_of table).create (shape_of table) (rules_of table) (create_is table (texts table))) (create_makes (sql_of table).create (shape_of table) (rules_of table) (create_is table (texts table)) old new count) (subst (λ (sql : Sql). HasRun sql.create [] count old new) is run)
-
-  -- and as statements
-  pub went_creating : HasRun told.create [] count old new → Went (sql_of table).create [] old.step_limit old.now new.now
-  went_creating run =
-      let writes = create_writes (sql_of table).create (shape_of table) (rules_of table) (create_is table (texts table)) in
-      (count, written _ _ old new count writes (subst (λ (sql : Sql). HasRun sql.create [] count old new) is run).ran)
 
 -- a row was brought into its table
 module _ (table : Table) (row : Cells) (fits : are_of (kinds_of table) row ≡ true) (old new : State) (count : ℕ) where
@@ -56,9 +56,6 @@ module _ (table : Table) (row : Cells) (fits : are_of (kinds_of table) row ≡ t
   entered way text is run =
       stepped_by (Enters way (table_at table) (values (key_in table row)) (values row)) (entering way (sql_of table)) (values row) count old new (entry_writes way) (enters way) (subst (λ sql. HasRun sql (values row) count old new) is run)
 
-  pub went_entering : (way : Entering) (text : List ℕ) → text ≡ entering way (sql_of table) → HasRun text (values row) count old new → Went (entering way (sql_of table)) (values row) old.step_limit old.now new.now
-  went_entering way text is run = (count, written _ _ old new count (entry_writes way) (subst (λ sql. HasRun sql (values row) count old new) is run).ran)
-
 -- the rows of a group were taken away
 module _ (group : Group) (text : List ℕ) (is : text ≡ removal group) (old new : State) (count : ℕ) (key : Cells) (fits : are_of (shared_kinds group) key ≡ true) where
   abbrev s : Table × ℕ
@@ -73,9 +70,45 @@ module _ (group : Group) (text : List ℕ) (is : text ≡ removal group) (old ne
       (delete_removes (removal group) (shape_of s.0) (shared_kinds group) (goes_on s.1) it old new key count fits)
       (subst (λ sql. HasRun sql (values key) count old new) is run)
 
-  pub went_leaving : HasRun text (values key) count old new → Went (removal group) (values key) old.step_limit old.now new.now
-  went_leaving run =
-      (count, written _ _ old new count (delete_writes (removal group) (shape_of s.0) (shared_kinds group) (goes_on s.1) it) (subst (λ sql. HasRun sql (values key) count old new) is run).ran)
+-- which edits are made, and which are refused
+module _ (table : Table) (told : Sql) (is : told ≡ sql_of table) where
+  pub make_refused : (limit : Option ℕ) (db : Database) → IsHindered told.create [] limit db → IsUnmade (made_here table 0) db
+  make_refused limit db h = unmade table (texts table) (are_makable table) limit db (subst (λ (sql : Sql). IsHindered sql.create [] limit db) is h)
+
+  pub make_made : (old new : State) (count : ℕ) → HasRun told.create [] count old new → IsTableMade (made_here table 0) old.now new.now
+  make_made old new count run = table_made table (texts table) old new count (subst (λ (sql : Sql). HasRun sql.create [] count old new) is run).ran
+
+module _ (table : Table) (row : Cells) (fits : are_of (kinds_of table) row ≡ true) where
+  abbrev Entry : Entering → (Edit → Type 0) → Option ℕ → Database → Type 0
+  Entry way = OfEntry way (table_at table) (values (key_in table row)) (values row)
+
+  by_key : (P : Edit → Type 0) (limit : Option ℕ) (db : Database) → OfEntry InPlace (table_at table) (take (keyed table) (values row)) (values row) P limit db → Entry InPlace P limit db
+  by_key P limit db = subst (λ key. OfEntry InPlace (table_at table) key (values row) P limit db) (take-map value_of (keyed table) row)
+
+  pub entry_refused : (way : Entering) (text : List ℕ) → text ≡ entering way (sql_of table) → (limit : Option ℕ) (db : Database) → IsHindered text (values row) limit db → Entry way (IsRefusedIn db) limit db
+  entry_refused InPlace text is limit db h =
+      by_key (IsRefusedIn db) limit db (update_refused (sql_of table).update (shape_of table) (kinds_of table) (keyed table) (update_is table (texts table)) row fits limit db (subst (λ sql. IsHindered sql (values row) limit db) is h))
+  entry_refused New text is limit db h = insert_refused (sql_of table).insert (shape_of table) (kinds_of table) (insert_is table (texts table)) row fits limit db (subst (λ sql. IsHindered sql (values row) limit db) is h)
+
+  pub entry_made : (way : Entering) (text : List ℕ) → text ≡ entering way (sql_of table) → (old new : State) (count : ℕ) → HasRun text (values row) count old new → Entry way (IsMade old.now new.now) old.step_limit old.now
+  entry_made InPlace text is old new count run =
+      by_key (IsMade old.now new.now) old.step_limit old.now
+      (update_made (sql_of table).update (shape_of table) (kinds_of table) (keyed table) (update_is table (texts table)) row fits old new count (subst (λ sql. HasRun sql (values row) count old new) is run).ran)
+  entry_made New text is old new count run =
+      insert_made (sql_of table).insert (shape_of table) (kinds_of table) (insert_is table (texts table)) row fits old new count (subst (λ sql. HasRun sql (values row) count old new) is run).ran
+
+module _ (group : Group) (key : Cells) (fits : are_of (shared_kinds group) key ≡ true) (text : List ℕ) (is : text ≡ removal group) where
+  abbrev from : Table × ℕ
+  from = shared_by group
+
+  told_so : IsDelete (removal group) (shape_of from.0) (shared_kinds group) (goes_on from.1)
+  told_so = removal_is from.0 (texts from.0) (removal group) from.1 (shared_kinds group) (group_text group)
+
+  pub leaving_refused : (limit : Option ℕ) (db : Database) → IsHindered text (values key) limit db → OfLeaving group (values key) (IsRefusedIn db) limit db
+  leaving_refused limit db h = delete_refused (removal group) (shape_of from.0) (shared_kinds group) (goes_on from.1) told_so key fits limit db (subst (λ sql. IsHindered sql (values key) limit db) is h)
+
+  pub leaving_made : (old new : State) (count : ℕ) → HasRun text (values key) count old new → OfLeaving group (values key) (IsMade old.now new.now) old.step_limit old.now
+  leaving_made old new count run = delete_made (removal group) (shape_of from.0) (shared_kinds group) (goes_on from.1) told_so key fits old new count (subst (λ sql. HasRun sql (values key) count old new) is run).ran
 
 module _ (table : Table) (told : Sql) (is : told ≡ sql_of table) (old new : State) where
   -- what a reading shows of the table
@@ -96,9 +129,5 @@ module _ (table : Table) (told : Sql) (is : told ≡ sql_of table) (old new : St
   rests ran = select_rests (sql_of table).select (shape_of table) (select_is table (texts table)) old new (subst (λ (sql : Sql). RanQuery sql.select old new) is ran)
 
   -- why it fails
-  pub unread_by : (fault : TableFault) → fault ≡ Storage → FailsToRead told.select fault old new → IsStopped (IsUnread (sql_of table).select) old new
-  unread_by fault storage h = go (subst (λ (sql : Sql). FailsToRead sql.select fault old new) is h)
-    where
-      go : FailsToRead (sql_of table).select fault old new → IsStopped (IsUnread (sql_of table).select) old new
-      go (inl (e, fails, is)) = unread (sql_of table).select (shape_of table) (select_is table (texts table)) old new e (sym is ∙ storage) fails
-      go (inr (rows, shown, mixed, is)) = unordered (sql_of table).select (shape_of table) (select_is table (texts table)) old new rows mixed shown
+  pub unread_by : (fault : TableFault) → fault ≡ Storage → FailsToRead told.select fault old new → IsStopped (IsUnread (table_at table)) old new
+  unread_by fault storage h = unread_rows (sql_of table).select (shape_of table) (select_is table (texts table)) old new fault storage (subst (λ (sql : Sql). FailsToRead sql.select fault old new) is h)

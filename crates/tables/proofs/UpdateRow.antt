@@ -1,11 +1,12 @@
 -- UPDATE by key, which sets every column but the rowid.
-use Rattle.std.proofs.Common.{◌≡◌, inl, inr, ℕ, List, [], ◌∷◌, ◌++◌, slice_get, Option, Some, None, Ok, refl, sym, ap, subst, subst₂, ◌∙◌, true, false, map, filter, take, drop, not, cond, Bool}
+use Rattle.std.proofs.Common.{◌≡◌, inl, inr, ℕ, length, List, [], ◌∷◌, ◌++◌, slice_get, Option, Some, None, Ok, refl, sym, ap, subst, subst₂, ◌∙◌, true, false, map, filter, take, drop, not, cond, Bool}
 use Rattle.std.specs.List.Sorted.{IsPermutation}
 use Rattle.std.proofs.lemmas.List.{map-append}
 use Rattle.std.proofs.lemmas.List.Sorted.{IsPermutation-refl, IsPermutation-cons, IsPermutation-map, IsPermutation-middle, IsPermutation-sym, IsPermutation-trans, IsPermutation-append_left}
 use Rattle.sqlite_keyed.proofs.ListLemmas.{map-map}
 use Rattle.sqlite.specs.Schema.{Schema}
 use Rattle.sqlite.specs.Table.{Table}
+use Rattle.sqlite.specs.declared.types.Value.TheVariants.{Null}
 use Rattle.sqlite.specs.Order.{Row}
 use Rattle.sqlite_ast.specs.declared.Statement.TheVariants as written
 use Rattle.sqlite_ast.specs.declared.Expr.{Expr}
@@ -32,7 +33,7 @@ use Rattle.tables.specs.Inside.Keyed.{id_of}
 use Rattle.tables.specs.Keyed.{IsKeyed}
 use Rattle.row_model.specs.declared.cell.Kind.{Kind}
 use Rattle.row_model.specs.Rows.{Cells, are_of}
-use Rattle.tables.specs.Table.{Place, TableShape, cells, made_at, values as sql_values}
+use Rattle.tables.specs.Table.{Place, TableShape, cells, laid_out, made_at, values as sql_values}
 use Rattle.tables.specs.Writes.{begins_with, with_row, Puts}
 use Rattle.tables.proofs.Places.{listed_along}
 use Rattle.tables.proofs.InsertKeyed.{went, same_value}
@@ -40,8 +41,8 @@ use Rattle.tables.proofs.Understood.{IsWriteText, runs_by}
 use Rattle.tables.proofs.RowidsOut.{taken_out, still_keyed, kept_has, passes}
 use Rattle.tables.proofs.Rowids.{put_all_permutes, keyed_put_all}
 use Rattle.tables.proofs.InsertRow.{Has as Finds, has_listed}
-use Rattle.tables.proofs.QueryRows.{found_program, IsDrafted, drafted_writes, drafted_means, hit, found}
-use Rattle.tables.proofs.SelectAll.{finding}
+use Rattle.tables.proofs.QueryRows.{IsDrafted, drafted_writes, drafted_means, hit, found}
+use Rattle.tables.proofs.SelectAll.{found_program, IsAccepted, IsFirst, finding}
 
 -- what an UPDATE shows of a row that it finds: its rowid, the rowid that it gets, which is the same, and the other columns
 abbrev pub showing : List Term → List Term
@@ -56,7 +57,12 @@ pub record IsUpdate (sql : List ℕ) (shape : TableShape) (kinds : List Kind) (w
   pub values : List Term
   pub drafted : IsDrafted sql shape.name (written.Update shape.name sets (Some test) []) (λ schema at table. updated schema at table sets (Some test)) Update
   pub draft : (schema : Schema) (at : ℕ) (place : Place) → Finds schema shape.name at (made_at shape place) → updated schema at (made_at shape place) sets (Some test) ≡ Ok (finding place.tree (tests place.rules.is_strict) (showing values))
+  pub counted : (row : Cells) → are_of kinds row ≡ true → length (sql_values row) ≡ length drafted.p.names
+  pub accepted : (schema : Schema) (place : Place) → IsFirst schema (made_at shape place) → IsAccepted schema place.tree (tests place.rules.is_strict) (showing values) []
+      × ((row : Cells) → are_of kinds row ≡ true → IsAccepted schema place.tree (tests place.rules.is_strict) (showing values) (sql_values row))
   pub hits : (place : Place) (row : Cells) → are_of kinds row ≡ true → (r : Row) → hit (tests place.rules.is_strict) (showing values) (sql_values row) r ≡ begins_with (take width (sql_values row)) (cells (made_at shape place) r)
+  pub put : (place : Place) (row : Cells) → are_of kinds row ≡ true → (r : Row) → is_int (rowid r) ≡ true → hit (tests place.rules.is_strict) (showing values) (sql_values row) r ≡ true
+      → cast_row (made_at shape place) (rowid r ∷ eval_all values (sql_values row ∷ r ∷ [])) ≡ rowid r ∷ drop 1 (laid_out Null shape.key (sql_values row))
   pub set : (place : Place) (row : Cells) → are_of kinds row ≡ true → (r : Row) → is_int (rowid r) ≡ true → hit (tests place.rules.is_strict) (showing values) (sql_values row) r ≡ true
       → cells (made_at shape place) (cast_row (made_at shape place) (rowid r ∷ eval_all values (sql_values row ∷ r ∷ []))) ≡ sql_values row
 
@@ -79,7 +85,7 @@ update_does limit mode params db after text at table q tally there inert h =
       subst (Applies db.schema mode.keys db.trees edit) (sym (ap (λ (d : Database). d.trees) now ∙ trees)) made,
     )
 
-numbered_given : (news left : List Row) → numbered Given left news ≡ news
+pub numbered_given : (news left : List Row) → numbered Given left news ≡ news
 numbered_given [] left = refl
 numbered_given (n ∷ news) left = ap (λ more. n ∷ more) (numbered_given news (put_row n left))
 
@@ -93,11 +99,11 @@ halves p f g (x ∷ xs) = by (p x) _ (filter p xs) (filter (λ x. not (p x)) xs)
     by true ys passing others h = IsPermutation-cons (f x) _ _ h
     by false ys passing others h = IsPermutation-trans _ _ _ (IsPermutation-cons (g x) _ _ h) (IsPermutation-sym _ _ (IsPermutation-middle (map f passing) (g x) (map g others)))
 
-abbrev remade : Table → Row → Row
+abbrev pub remade : Table → Row → Row
 remade t s = cast_row t (drop 1 s)
 
 -- lists of what is the same at each
-map_same : {X Y : Type 0} (f g : X → Y) (xs : List X) → ((x : X) → Has xs x → f x ≡ g x) → map f xs ≡ map g xs
+pub map_same : {X Y : Type 0} (f g : X → Y) (xs : List X) → ((x : X) → Has xs x → f x ≡ g x) → map f xs ≡ map g xs
 map_same f g [] same = refl
 map_same f g (x ∷ xs) same = λ i. same x (inl refl) i ∷ map_same f g xs (λ y h. same y (inr h)) i
 

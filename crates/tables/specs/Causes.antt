@@ -1,20 +1,35 @@
 -- Why a statement is not carried out, for another cause than running out of memory.
-use Rattle.std.specs.Prelude.{◌≡◌, ◌⊎◌, ◌&&◌, ℕ, ℤ, pos, Bool, true, false, codes, List, [], Option, None, unwrap_or, Result, Ok, Err, IfErr, OnOk}
+use Rattle.std.specs.Prelude.{◌≡◌, ◌⊎◌, ◌&&◌, ◌==◌, ◌≤◌, ◌+◌, length, ℕ, ℤ, Bool, true, false, drop, filter, find, map, List, [], ◌∷◌, Option, None, Some, Result, Err, OnOk}
 use Rattle.std.specs.List.Sorted.{IsPermutation, IsSorted}
 use Rattle.std.specs.declared.cmp.Ordering.{Ordering}
 use Rattle.sqlite_disk.specs.Disk.{MoreFaults}
-use Rattle.sqlite_resolve.specs.declared.compiled.Compiled.{Compiled}
 use Rattle.sqlite.specs.declared.error.Error.{Error}
 use Rattle.sqlite.specs.Order.{Row, value_cmp}
-use Rattle.sqlite.specs.Tree.{rowid}
-use Rattle.sqlite.specs.Clock.{timed}
-use Rattle.sqlite.specs.Effect.{Database, IsDatabase, SparesFrozen}
-use Rattle.sqlite.specs.Does.{Does, Tally}
-use Rattle.sqlite.specs.State.{State, HasCleanDisk, Savepoint, IsStatement, IsNotRun, ExecutesInside, FailsToQuery, Shown, mode_of, text_of}
+use Rattle.sqlite.specs.Table.{Table as AnyTable}
+use Rattle.sqlite.specs.Tree.{Trees, rowid}
+use Rattle.sqlite.specs.Edit.{Edit, Applies, IsOversized, IsRefused, id_in, with_rowid}
+use Rattle.sqlite.specs.Rowids.TheVariants.{Chosen}
+use Rattle.sqlite.specs.declared.types.Value.TheVariants.{Null}
+use Rattle.sqlite.specs.Effect.{Database, IsDatabase}
+use Rattle.sqlite.specs.Does.{lacks_sequence}
+use Rattle.sqlite.specs.State.{State, HasCleanDisk, Savepoint, ExecutesInside, FailsToQuery, Shown}
 use Rattle.tables.specs.declared.fault.TableFault.{TableFault}
 use Rattle.tables.specs.declared.fault.TableFault.TheVariants.{Memory, Storage}
+use Rattle.sqlite_schema.specs.declared.schema.Among.TheVariants.{All}
+use Rattle.sqlite_schema.specs.declared.schema.Keys.TheVariants.{Enforced}
+use Rattle.sqlite_schema.specs.Rules.{Refers}
+use Rattle.sqlite_rules.specs.declared.error.Refusal.{Refusal}
+use Rattle.sqlite_rules.specs.Lists.{Has}
+use Rattle.sqlite_schema.specs.declared.schema.Index.{Index}
+use Rattle.sqlite_catalog.specs.Change.{KeepsRows, automatics, created, is_used, next_tree}
+use Rattle.row_model.specs.declared.row.Group.{Group}
+use Rattle.row_model.specs.Rows.{shared_by}
+use Rattle.tables.specs.declared.statements.Entering.{Entering}
+use Rattle.tables.specs.declared.statements.Entering.TheVariants.{InPlace, New}
 use Rattle.tables.specs.Faults.{fault_of}
-use Rattle.tables.specs.Keyed.{have_ids, rises}
+use Rattle.tables.specs.Table.{Lists, Place, cells, laid_out, table_at}
+use Rattle.tables.specs.Writes.{IsInert, begins_with, goes_on}
+use Rattle.tables.specs.Keyed.{IsKeyed, Stands, have_ids, rises}
 
 -- what a connection shows at a moment, and what it counts
 pub record Moment : Type 0 where
@@ -46,53 +61,59 @@ at_moment m = record {
   IsShielded = ⊥;
 }
 
--- an open connection that shows this database
-abbrev pub showing : Option ℕ → Bool → List Savepoint → Database → State
-showing limit in_transaction marks db = at_moment (record {
-  now = db;
-  committed = db;
-  in_transaction = in_transaction;
-  marks = marks;
-  is_open = true;
-  faults = 0;
-  changes = 0;
-  last_rowid = pos 0;
-  step_limit = limit;
-})
+-- the edit that adds a row
+abbrev pub adding : AnyTable → Row → Trees → Edit
+adding table given trees = record { table = table; gone = []; news = with_rowid Chosen (trees table.tree) (laid_out Null table.key given) ∷ [] }
 
--- over an open connection that shows this database the call is refused, for another cause than running out of memory
-pub record IsRefusedCall (Refuses : State → Error → Type 0) (limit : Option ℕ) (db : Database) : Type 0 where
-  pub in_transaction : Bool
-  pub marks : List Savepoint
-  pub error : Error
-  pub other : fault_of error ≡ Storage
-  pub refused : Refuses (showing limit in_transaction marks db) error
+-- the one that takes rows of a table out, and puts others in
+abbrev pub changing : AnyTable → List Row → List Row → Edit
+changing table found news = record { table = table; gone = map (λ r. id_in (rowid r)) found; news = news }
 
--- what a statement of this text would write is too large to be stored
-pub record IsTooLarge (sql : List ℕ) (params : Row) (limit : Option ℕ) (db : Database) : Type 0 where
-  pub in_transaction : Bool
-  pub marks : List Savepoint
-  pub meant : Compiled
-  pub is : IsStatement (showing limit in_transaction marks db) sql params meant
-  pub large : Does limit (mode_of (showing limit in_transaction marks db)) (timed params meant.formats is.now) db (text_of sql meant) meant.returning meant.command (Err None)
+-- the row that takes the place of another
+abbrev pub replacing : AnyTable → Row → Row → Row
+replacing table given old = rowid old ∷ drop 1 (laid_out Null table.key given)
 
--- over an open connection that shows this database a statement of this text goes through, writes this many rows, and leaves this database
-pub record WentThrough (sql : List ℕ) (params : Row) (count : ℕ) (limit : Option ℕ) (db now : Database) : Type 0 where
-  pub meant : Compiled
-  pub is : IsStatement (showing limit true [] db) sql params meant
-  pub tally : Tally
-  pub does : Does limit (mode_of (showing limit true [] db)) (timed params meant.formats is.now) db (text_of sql meant) meant.returning meant.command (Ok (tally, now))
-  pub counted : count ≡ unwrap_or tally.rows 0
-  pub frozen : SparesFrozen db now
-  pub sound : IsDatabase now
+-- This holds of the edit that adds the row, where the table is listed, and no limit of steps is set.
+abbrev pub OfRow : (Place → AnyTable) → Row → (Edit → Type 0) → Option ℕ → Database → Type 0
+OfRow table given P limit db = limit ≡ None → (place : Place) → Lists db.schema (table place) → P (adding (table place) given db.trees)
 
--- the same, over however many rows
-abbrev pub Went : List ℕ → Row → Option ℕ → Database → Database → Type 0
-Went sql params limit db now = (count : ℕ) × WentThrough sql params count limit db now
+-- This holds of the edit by which these come for the rows that pass, in some order, where the table stands, is the first in its tree, and
+-- no foreign key acts on it.
+abbrev pub OfChange : (Place → AnyTable) → (Row → Bool) → (AnyTable → List Row → List Row) → (Edit → Type 0) → Option ℕ → Database → Type 0
+OfChange table goes comes P limit db =
+    limit ≡ None → IsDatabase db → (place : Place) (rows : List Row) → IsInert db.schema place.tree → Stands table place rows db → find (λ t. t.tree == place.tree) db.schema.tables ≡ Some (table place)
+    → (found : List Row) × IsPermutation (filter (λ r. goes (cells (table place) r)) (db.trees place.tree)) found × P (changing (table place) found (comes (table place) found))
 
--- a statement of this text is refused
-abbrev pub IsHindered : List ℕ → Row → Option ℕ → Database → Type 0
-IsHindered sql params limit db = IsRefusedCall (λ s e. ExecutesInside 0 sql params s s (Err e)) limit db ⊎ IsTooLarge sql params limit db
+-- of the edit that brings a row into its table so
+abbrev pub OfEntry : Entering → (Place → AnyTable) → Row → Row → (Edit → Type 0) → Option ℕ → Database → Type 0
+OfEntry New table key given = OfRow table given
+OfEntry InPlace table key given = OfChange table (begins_with key) (λ t. map (replacing t given))
+
+-- of the one that takes the rows of a group out
+abbrev pub OfLeaving : Group → Row → (Edit → Type 0) → Option ℕ → Database → Type 0
+OfLeaving group key = let s = shared_by group in OfChange (table_at s.0) (goes_on s.1 key) (λ _ _. [])
+
+-- the edit was made: a database is left, with the same schema
+abbrev pub IsMade : Database → Database → Edit → Type 0
+IsMade db now edit = IsDatabase now × (now.schema ≡ db.schema) × Applies db.schema Enforced db.trees edit now.trees
+
+-- it is refused by a rule of the schema, a row of it is too large to be stored, or once it is made a row lacks its parent
+abbrev pub IsRefusedIn : Database → Edit → Type 0
+IsRefusedIn db edit =
+    ((why : Refusal) × IsRefused db.schema Enforced db.trees edit why)
+    ⊎ (((row : Row) × Has edit.news row × IsOversized db.schema edit.table row) ⊎ ((next : Trees) × Applies db.schema Enforced db.trees edit next × (Refers All db.schema next → ⊥)))
+
+-- the table was made, where no table counts its rowids without counters
+abbrev pub IsTableMade : AnyTable → Database → Database → Type 0
+IsTableMade table db now =
+    lacks_sequence (created db.schema table) ≡ false → IsDatabase now × (now.schema ≡ created db.schema table) × (now.trees (next_tree db.schema) ≡ []) × KeepsRows db.schema.tables db.trees now.trees
+
+-- The table is not made: its name or that of an index of it is used, there is no room for its trees, or some table counts its rowids and
+-- the schema has no counters.
+abbrev pub IsUnmade : AnyTable → Database → Type 0
+IsUnmade table db =
+    (is_used db.schema table.name ≡ true) ⊎ (((index : Index) × Has (automatics table 0 0 table.uniques) index × (is_used db.schema index.name ≡ true))
+    ⊎ ((65536 ≤ next_tree db.schema + length table.uniques) ⊎ (lacks_sequence (created db.schema table) ≡ true)))
 
 -- rows in the order of their rowids
 abbrev pub by_rowid : Row → Row → Ordering
@@ -105,18 +126,10 @@ pub record ShowsInOrder (sql : List ℕ) (rows : List Row) (old new : State) : T
   pub same : IsPermutation seen rows
   pub sorted : IsSorted by_rowid rows
 
--- the rowids that a query of this text shows are no integers, or two of them are one: in their order they do not rise
-pub record ShowsUnkeyed (sql : List ℕ) (db : Database) : Type 0 where
-  pub limit : Option ℕ
-  pub in_transaction : Bool
-  pub marks : List Savepoint
-  pub rows : List Row
-  pub shown : let s = showing limit in_transaction marks db in ShowsInOrder sql rows s s
-  pub unkeyed : have_ids rows && rises rows ≡ false
-
--- a query of this text is refused, or shows rows that their rowids do not distinguish
-abbrev pub IsUnread : List ℕ → Option ℕ → Database → Type 0
-IsUnread sql limit db = IsRefusedCall (λ s e. FailsToQuery sql [] s s e) limit db ⊎ ShowsUnkeyed sql db
+-- where the table is listed, and first in its tree, its rowids are no integers, or two of them are one
+abbrev pub IsUnread : (Place → AnyTable) → Option ℕ → Database → Type 0
+IsUnread table limit db =
+    limit ≡ None → IsDatabase db → (place : Place) → Lists db.schema (table place) → find (λ t. t.tree == place.tree) db.schema.tables ≡ Some (table place) → IsKeyed (db.trees place.tree) → ⊥
 
 -- a query failed with an error that is this fault, or it showed rows that their rowids do not distinguish
 abbrev pub FailsToRead : List ℕ → TableFault → State → State → Type 0
@@ -135,10 +148,6 @@ pub record LacksMemory (old new : State) : Type 0 where
   pub params : Row
   pub fails : FailsToWrite sql params Memory (at_moment between) new
 
--- the plainest query is refused
-abbrev pub IsUnready : Option ℕ → Database → Type 0
-IsUnready = IsRefusedCall (λ s e. IsNotRun s s (codes "SELECT 1") [] e)
-
 -- Why a call from the one state to the other fails, for another cause than running out of memory: the connection is shut, the disk has
 -- failed or refused once more, or the call is hindered in this way.
 pub record IsStopped (Hinders : Option ℕ → Database → Type 0) (old new : State) : Type 0 where
@@ -151,10 +160,6 @@ IsCaused storage Hinders result old new = HasCleanDisk new → result ≡ Err st
 -- the same of a call in a transaction
 abbrev pub IsCausedInside : {A : Type 0} → (Option ℕ → Database → Type 0) → Result A TableFault → State → State → Type 0
 IsCausedInside Hinders result old new = old.in_transaction ≡ true → IsCaused Storage Hinders result old new
-
--- where a call in a transaction fails, it returns a fault of this kind, unless the disk gave back other bytes than it was given
-abbrev pub IsToldInside : {A : Type 0} → (TableFault → State → State → Type 0) → Result A TableFault → State → State → Type 0
-IsToldInside Fails result old new = HasCleanDisk new → old.in_transaction ≡ true → IfErr result (λ fault. Fails fault old new)
 
 -- where a call in a transaction answers, it went so, unless the disk gave back other bytes than it was given
 abbrev pub IsRunInside : {A : Type 0} → (Option ℕ → Database → Database → Type 0) → Result A TableFault → State → State → Type 0

@@ -1,4 +1,5 @@
 -- What proofs need and no public clause says.
+pub mod Causes
 pub mod Inert
 pub mod Keyed
 pub mod Layout

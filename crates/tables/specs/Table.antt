@@ -23,8 +23,6 @@ use Rattle.sqlite_value.specs.Keys.{plain}
 use Rattle.sqlite_value.specs.declared.keys.Order.{Order}
 use Rattle.row_model.specs.declared.cell.Cell.{Cell}
 use Rattle.row_model.specs.declared.cell.Cell.TheVariants as cell
-use Rattle.row_model.specs.declared.row.Group.{Group}
-use Rattle.row_model.specs.declared.row.Group.TheVariants as group
 use Rattle.row_model.specs.declared.table.Table.{Table}
 use Rattle.row_model.specs.declared.table.Table.TheVariants.{Edition, Supervisor, Project, Student, Round, OldChoice, OldPlacement, Import, RoundAim, Choice, Placement}
 use Rattle.row_model.specs.Rows.{Cells}
@@ -79,145 +77,113 @@ against op place value = op2 (Compare op Binary) (col 1 place) (lit value)
 abbrev pub between : ℕ → ℕ → ℕ → Term
 between place low high = op2 And (against Ge place (Int (pos low))) (against Le place (Int (pos high)))
 
--- All that is declared of a table here: its shape, the texts of its statements, and the CHECK rules that it is made with.
-pub record Telling : Type 0 where
-  pub shape : TableShape
-  pub sql : Sql
-  pub checks : List Term
-
--- what is declared of each table, which the code has in the same words (`src/table.rt`)
-abbrev pub telling : Table → Telling
-telling Edition = record {
-  shape = by_rowid (codes "edition") ((codes "id", Integer) ∷ (codes "number", Integer) ∷ []) [];
-  sql = record {
-    create = codes "CREATE TABLE edition (id INTEGER NOT NULL PRIMARY KEY CHECK (id = 1), number INTEGER NOT NULL) STRICT";
-    insert = codes "INSERT INTO edition (id, number) VALUES (?1, ?2)";
-    update = codes "UPDATE edition SET number = ?2 WHERE id = ?1";
-    delete = codes "DELETE FROM edition WHERE id = ?1";
-    select = codes "SELECT rowid, * FROM edition";
-  };
-  checks = against Eq 0 (Int (pos 1)) ∷ [];
-}
-telling Supervisor = record {
-  shape = by_text (codes "supervisor") ((codes "code", Text) ∷ (codes "label", Text) ∷ (codes "quota", Integer) ∷ []) [];
-  sql = record {
-    create = codes "CREATE TABLE supervisor (code TEXT NOT NULL PRIMARY KEY, label TEXT NOT NULL, quota INTEGER NOT NULL CHECK (quota BETWEEN 0 AND 500)) STRICT";
-    insert = codes "INSERT INTO supervisor (code, label, quota) VALUES (?1, ?2, ?3)";
-    update = codes "UPDATE supervisor SET code = ?1, label = ?2, quota = ?3 WHERE code = ?1";
-    delete = codes "DELETE FROM supervisor WHERE code = ?1";
-    select = codes "SELECT rowid, * FROM supervisor";
-  };
-  checks = between 3 0 500 ∷ [];
-}
-telling Project = record {
-  shape = by_text (codes "project") ((codes "code", Text) ∷ (codes "label", Text) ∷ (codes "supervisor", Text) ∷ (codes "quota", Integer) ∷ []) ((3, codes "supervisor", codes "code") ∷ []);
-  sql = record {
-    create = codes "CREATE TABLE project (code TEXT NOT NULL PRIMARY KEY, label TEXT NOT NULL, supervisor TEXT NOT NULL REFERENCES supervisor (code), quota INTEGER NOT NULL CHECK (quota BETWEEN 0 AND 500)) STRICT";
-    insert = codes "INSERT INTO project (code, label, supervisor, quota) VALUES (?1, ?2, ?3, ?4)";
-    update = codes "UPDATE project SET code = ?1, label = ?2, supervisor = ?3, quota = ?4 WHERE code = ?1";
-    delete = codes "DELETE FROM project WHERE code = ?1";
-    select = codes "SELECT rowid, * FROM project";
-  };
-  checks = between 4 0 500 ∷ [];
-}
-telling Student = record {
-  shape = by_text (codes "student") ((codes "code", Text) ∷ (codes "label", Text) ∷ []) [];
-  sql = record {
-    create = codes "CREATE TABLE student (code TEXT NOT NULL PRIMARY KEY, label TEXT NOT NULL) STRICT";
-    insert = codes "INSERT INTO student (code, label) VALUES (?1, ?2)";
-    update = codes "UPDATE student SET code = ?1, label = ?2 WHERE code = ?1";
-    delete = codes "DELETE FROM student WHERE code = ?1";
-    select = codes "SELECT rowid, * FROM student";
-  };
-  checks = [];
-}
-telling Round = record {
-  shape = by_rowid (codes "round") ((codes "number", Integer) ∷ (codes "open", Integer) ∷ []) [];
-  sql = record {
-    create = codes "CREATE TABLE round (number INTEGER NOT NULL PRIMARY KEY, open INTEGER NOT NULL CHECK (open IN (0, 1))) STRICT";
-    insert = codes "INSERT INTO round (number, open) VALUES (?1, ?2)";
-    update = codes "UPDATE round SET open = ?2 WHERE number = ?1";
-    delete = codes "DELETE FROM round WHERE number = ?1";
-    select = codes "SELECT rowid, * FROM round";
-  };
-  checks = op2 Or (against Eq 2 (Int (pos 0))) (against Eq 2 (Int (pos 1))) ∷ [];
-}
-telling OldChoice = record {
-  shape = choices (codes "choice");
-  sql = record {
-    create = codes "CREATE TABLE choice (round INTEGER NOT NULL REFERENCES round (number), student TEXT NOT NULL REFERENCES student (code), place INTEGER NOT NULL CHECK (place BETWEEN 1 AND 8), project TEXT NOT NULL REFERENCES project (code), PRIMARY KEY (round, student, place), UNIQUE (round, student, project)) STRICT";
-    insert = codes "INSERT INTO choice (round, student, place, project) VALUES (?1, ?2, ?3, ?4)";
-    update = codes "UPDATE choice SET round = ?1, student = ?2, place = ?3, project = ?4 WHERE round = ?1 AND student = ?2 AND place = ?3";
-    delete = codes "DELETE FROM choice WHERE round = ?1 AND student = ?2 AND place = ?3";
-    select = codes "SELECT rowid, * FROM choice";
-  };
-  checks = between 3 1 8 ∷ [];
-}
-telling OldPlacement = record {
-  shape = placements (codes "placement");
-  sql = record {
-    create = codes "CREATE TABLE placement (student TEXT NOT NULL PRIMARY KEY REFERENCES student (code), round INTEGER NOT NULL REFERENCES round (number), project TEXT NOT NULL REFERENCES project (code), rank INTEGER NOT NULL CHECK (rank BETWEEN 1 AND 8)) STRICT";
-    insert = codes "INSERT INTO placement (student, round, project, rank) VALUES (?1, ?2, ?3, ?4)";
-    update = codes "UPDATE placement SET student = ?1, round = ?2, project = ?3, rank = ?4 WHERE student = ?1";
-    delete = codes "DELETE FROM placement WHERE student = ?1";
-    select = codes "SELECT rowid, * FROM placement";
-  };
-  checks = between 4 1 8 ∷ [];
-}
-telling Import = record {
-  shape = by_text (codes "import") ((codes "id", Text) ∷ (codes "kind", Text) ∷ (codes "bytes", Blob) ∷ (codes "rows", Integer) ∷ []) [];
-  sql = record {
-    create = codes "CREATE TABLE import (id TEXT NOT NULL PRIMARY KEY, kind TEXT NOT NULL CHECK (kind IN ('supervisors', 'projects', 'students', 'lists')), bytes BLOB NOT NULL, rows INTEGER NOT NULL) STRICT";
-    insert = codes "INSERT INTO import (id, kind, bytes, rows) VALUES (?1, ?2, ?3, ?4)";
-    update = codes "UPDATE import SET id = ?1, kind = ?2, bytes = ?3, rows = ?4 WHERE id = ?1";
-    delete = codes "DELETE FROM import WHERE id = ?1";
-    select = codes "SELECT rowid, * FROM import";
-  };
-  checks = op2 Or (op2 Or (against Eq 2 (Words (codes "supervisors"))) (against Eq 2 (Words (codes "projects")))) (op2 Or (against Eq 2 (Words (codes "students"))) (against Eq 2 (Words (codes "lists")))) ∷ [];
-}
-telling RoundAim = record {
-  shape = by_rowid (codes "round_aim") ((codes "round", Integer) ∷ (codes "generous", Integer) ∷ []) ((0, codes "round", codes "number") ∷ []);
-  sql = record {
-    create = codes "CREATE TABLE round_aim (round INTEGER NOT NULL PRIMARY KEY REFERENCES round (number), generous INTEGER NOT NULL CHECK (generous IN (0, 1))) STRICT";
-    insert = codes "INSERT INTO round_aim (round, generous) VALUES (?1, ?2)";
-    update = codes "UPDATE round_aim SET generous = ?2 WHERE round = ?1";
-    delete = codes "DELETE FROM round_aim WHERE round = ?1";
-    select = codes "SELECT rowid, * FROM round_aim";
-  };
-  checks = op2 Or (against Eq 2 (Int (pos 0))) (against Eq 2 (Int (pos 1))) ∷ [];
-}
-telling Choice = record {
-  shape = choices (codes "choice12");
-  sql = record {
-    create = codes "CREATE TABLE choice12 (round INTEGER NOT NULL REFERENCES round (number), student TEXT NOT NULL REFERENCES student (code), place INTEGER NOT NULL CHECK (place BETWEEN 1 AND 12), project TEXT NOT NULL REFERENCES project (code), PRIMARY KEY (round, student, place), UNIQUE (round, student, project)) STRICT";
-    insert = codes "INSERT INTO choice12 (round, student, place, project) VALUES (?1, ?2, ?3, ?4)";
-    update = codes "UPDATE choice12 SET round = ?1, student = ?2, place = ?3, project = ?4 WHERE round = ?1 AND student = ?2 AND place = ?3";
-    delete = codes "DELETE FROM choice12 WHERE round = ?1 AND student = ?2 AND place = ?3";
-    select = codes "SELECT rowid, * FROM choice12";
-  };
-  checks = between 3 1 12 ∷ [];
-}
-telling Placement = record {
-  shape = placements (codes "placement12");
-  sql = record {
-    create = codes "CREATE TABLE placement12 (student TEXT NOT NULL PRIMARY KEY REFERENCES student (code), round INTEGER NOT NULL REFERENCES round (number), project TEXT NOT NULL REFERENCES project (code), rank INTEGER NOT NULL CHECK (rank BETWEEN 1 AND 12)) STRICT";
-    insert = codes "INSERT INTO placement12 (student, round, project, rank) VALUES (?1, ?2, ?3, ?4)";
-    update = codes "UPDATE placement12 SET student = ?1, round = ?2, project = ?3, rank = ?4 WHERE student = ?1";
-    delete = codes "DELETE FROM placement12 WHERE student = ?1";
-    select = codes "SELECT rowid, * FROM placement12";
-  };
-  checks = between 4 1 12 ∷ [];
-}
-
+-- what is declared of each table, which the code has in the same words (`src/table.rt`): its shape
 abbrev pub shape_of : Table → TableShape
-shape_of table = (telling table).shape
+shape_of Edition = by_rowid (codes "edition") ((codes "id", Integer) ∷ (codes "number", Integer) ∷ []) []
+shape_of Supervisor = by_text (codes "supervisor") ((codes "code", Text) ∷ (codes "label", Text) ∷ (codes "quota", Integer) ∷ []) []
+shape_of Project = by_text (codes "project") ((codes "code", Text) ∷ (codes "label", Text) ∷ (codes "supervisor", Text) ∷ (codes "quota", Integer) ∷ []) ((3, codes "supervisor", codes "code") ∷ [])
+shape_of Student = by_text (codes "student") ((codes "code", Text) ∷ (codes "label", Text) ∷ []) []
+shape_of Round = by_rowid (codes "round") ((codes "number", Integer) ∷ (codes "open", Integer) ∷ []) []
+shape_of OldChoice = choices (codes "choice")
+shape_of OldPlacement = placements (codes "placement")
+shape_of Import = by_text (codes "import") ((codes "id", Text) ∷ (codes "kind", Text) ∷ (codes "bytes", Blob) ∷ (codes "rows", Integer) ∷ []) []
+shape_of RoundAim = by_rowid (codes "round_aim") ((codes "round", Integer) ∷ (codes "generous", Integer) ∷ []) ((0, codes "round", codes "number") ∷ [])
+shape_of Choice = choices (codes "choice12")
+shape_of Placement = placements (codes "placement12")
 
+-- the texts of its statements
 abbrev pub sql_of : Table → Sql
-sql_of table = (telling table).sql
+sql_of Edition = record {
+  create = codes "CREATE TABLE edition (id INTEGER NOT NULL PRIMARY KEY CHECK (id = 1), number INTEGER NOT NULL) STRICT";
+  insert = codes "INSERT INTO edition (id, number) VALUES (?1, ?2)";
+  update = codes "UPDATE edition SET number = ?2 WHERE id = ?1";
+  delete = codes "DELETE FROM edition WHERE id = ?1";
+  select = codes "SELECT rowid, * FROM edition";
+}
+sql_of Supervisor = record {
+  create = codes "CREATE TABLE supervisor (code TEXT NOT NULL PRIMARY KEY, label TEXT NOT NULL, quota INTEGER NOT NULL CHECK (quota BETWEEN 0 AND 500)) STRICT";
+  insert = codes "INSERT INTO supervisor (code, label, quota) VALUES (?1, ?2, ?3)";
+  update = codes "UPDATE supervisor SET code = ?1, label = ?2, quota = ?3 WHERE code = ?1";
+  delete = codes "DELETE FROM supervisor WHERE code = ?1";
+  select = codes "SELECT rowid, * FROM supervisor";
+}
+sql_of Project = record {
+  create = codes "CREATE TABLE project (code TEXT NOT NULL PRIMARY KEY, label TEXT NOT NULL, supervisor TEXT NOT NULL REFERENCES supervisor (code), quota INTEGER NOT NULL CHECK (quota BETWEEN 0 AND 500)) STRICT";
+  insert = codes "INSERT INTO project (code, label, supervisor, quota) VALUES (?1, ?2, ?3, ?4)";
+  update = codes "UPDATE project SET code = ?1, label = ?2, supervisor = ?3, quota = ?4 WHERE code = ?1";
+  delete = codes "DELETE FROM project WHERE code = ?1";
+  select = codes "SELECT rowid, * FROM project";
+}
+sql_of Student = record {
+  create = codes "CREATE TABLE student (code TEXT NOT NULL PRIMARY KEY, label TEXT NOT NULL) STRICT";
+  insert = codes "INSERT INTO student (code, label) VALUES (?1, ?2)";
+  update = codes "UPDATE student SET code = ?1, label = ?2 WHERE code = ?1";
+  delete = codes "DELETE FROM student WHERE code = ?1";
+  select = codes "SELECT rowid, * FROM student";
+}
+sql_of Round = record {
+  create = codes "CREATE TABLE round (number INTEGER NOT NULL PRIMARY KEY, open INTEGER NOT NULL CHECK (open IN (0, 1))) STRICT";
+  insert = codes "INSERT INTO round (number, open) VALUES (?1, ?2)";
+  update = codes "UPDATE round SET open = ?2 WHERE number = ?1";
+  delete = codes "DELETE FROM round WHERE number = ?1";
+  select = codes "SELECT rowid, * FROM round";
+}
+sql_of OldChoice = record {
+  create = codes "CREATE TABLE choice (round INTEGER NOT NULL REFERENCES round (number), student TEXT NOT NULL REFERENCES student (code), place INTEGER NOT NULL CHECK (place BETWEEN 1 AND 8), project TEXT NOT NULL REFERENCES project (code), PRIMARY KEY (round, student, place), UNIQUE (round, student, project)) STRICT";
+  insert = codes "INSERT INTO choice (round, student, place, project) VALUES (?1, ?2, ?3, ?4)";
+  update = codes "UPDATE choice SET round = ?1, student = ?2, place = ?3, project = ?4 WHERE round = ?1 AND student = ?2 AND place = ?3";
+  delete = codes "DELETE FROM choice WHERE round = ?1 AND student = ?2 AND place = ?3";
+  select = codes "SELECT rowid, * FROM choice";
+}
+sql_of OldPlacement = record {
+  create = codes "CREATE TABLE placement (student TEXT NOT NULL PRIMARY KEY REFERENCES student (code), round INTEGER NOT NULL REFERENCES round (number), project TEXT NOT NULL REFERENCES project (code), rank INTEGER NOT NULL CHECK (rank BETWEEN 1 AND 8)) STRICT";
+  insert = codes "INSERT INTO placement (student, round, project, rank) VALUES (?1, ?2, ?3, ?4)";
+  update = codes "UPDATE placement SET student = ?1, round = ?2, project = ?3, rank = ?4 WHERE student = ?1";
+  delete = codes "DELETE FROM placement WHERE student = ?1";
+  select = codes "SELECT rowid, * FROM placement";
+}
+sql_of Import = record {
+  create = codes "CREATE TABLE import (id TEXT NOT NULL PRIMARY KEY, kind TEXT NOT NULL CHECK (kind IN ('supervisors', 'projects', 'students', 'lists')), bytes BLOB NOT NULL, rows INTEGER NOT NULL) STRICT";
+  insert = codes "INSERT INTO import (id, kind, bytes, rows) VALUES (?1, ?2, ?3, ?4)";
+  update = codes "UPDATE import SET id = ?1, kind = ?2, bytes = ?3, rows = ?4 WHERE id = ?1";
+  delete = codes "DELETE FROM import WHERE id = ?1";
+  select = codes "SELECT rowid, * FROM import";
+}
+sql_of RoundAim = record {
+  create = codes "CREATE TABLE round_aim (round INTEGER NOT NULL PRIMARY KEY REFERENCES round (number), generous INTEGER NOT NULL CHECK (generous IN (0, 1))) STRICT";
+  insert = codes "INSERT INTO round_aim (round, generous) VALUES (?1, ?2)";
+  update = codes "UPDATE round_aim SET generous = ?2 WHERE round = ?1";
+  delete = codes "DELETE FROM round_aim WHERE round = ?1";
+  select = codes "SELECT rowid, * FROM round_aim";
+}
+sql_of Choice = record {
+  create = codes "CREATE TABLE choice12 (round INTEGER NOT NULL REFERENCES round (number), student TEXT NOT NULL REFERENCES student (code), place INTEGER NOT NULL CHECK (place BETWEEN 1 AND 12), project TEXT NOT NULL REFERENCES project (code), PRIMARY KEY (round, student, place), UNIQUE (round, student, project)) STRICT";
+  insert = codes "INSERT INTO choice12 (round, student, place, project) VALUES (?1, ?2, ?3, ?4)";
+  update = codes "UPDATE choice12 SET round = ?1, student = ?2, place = ?3, project = ?4 WHERE round = ?1 AND student = ?2 AND place = ?3";
+  delete = codes "DELETE FROM choice12 WHERE round = ?1 AND student = ?2 AND place = ?3";
+  select = codes "SELECT rowid, * FROM choice12";
+}
+sql_of Placement = record {
+  create = codes "CREATE TABLE placement12 (student TEXT NOT NULL PRIMARY KEY REFERENCES student (code), round INTEGER NOT NULL REFERENCES round (number), project TEXT NOT NULL REFERENCES project (code), rank INTEGER NOT NULL CHECK (rank BETWEEN 1 AND 12)) STRICT";
+  insert = codes "INSERT INTO placement12 (student, round, project, rank) VALUES (?1, ?2, ?3, ?4)";
+  update = codes "UPDATE placement12 SET student = ?1, round = ?2, project = ?3, rank = ?4 WHERE student = ?1";
+  delete = codes "DELETE FROM placement12 WHERE student = ?1";
+  select = codes "SELECT rowid, * FROM placement12";
+}
 
--- the CHECK rules of a table, as it is made here
+-- and the CHECK rules that it is made with
 abbrev pub checks_of : Table → List Term
-checks_of table = (telling table).checks
+checks_of Edition = against Eq 0 (Int (pos 1)) ∷ []
+checks_of Supervisor = between 3 0 500 ∷ []
+checks_of Project = between 4 0 500 ∷ []
+checks_of Student = []
+checks_of Round = op2 Or (against Eq 2 (Int (pos 0))) (against Eq 2 (Int (pos 1))) ∷ []
+checks_of OldChoice = between 3 1 8 ∷ []
+checks_of OldPlacement = between 4 1 8 ∷ []
+checks_of Import = op2 Or (op2 Or (against Eq 2 (Words (codes "supervisors"))) (against Eq 2 (Words (codes "projects")))) (op2 Or (against Eq 2 (Words (codes "students"))) (against Eq 2 (Words (codes "lists")))) ∷ []
+checks_of RoundAim = op2 Or (against Eq 2 (Int (pos 0))) (against Eq 2 (Int (pos 1))) ∷ []
+checks_of Choice = between 3 1 12 ∷ []
+checks_of Placement = between 4 1 12 ∷ []
 
 -- What may differ from one database to another besides the table's tree: whether it is STRICT; which of its references, in order, name no
 -- column of the other table, so that its key is meant, where those beyond the list name theirs; and its CHECK rules, which are taken as
@@ -292,6 +258,12 @@ pub record Lists (schema : Schema) (table : AnyTable) : Type 0 where
   pub named : table_named schema table.name ≡ Some at
   pub there : slice_get schema.tables at ≡ Some table
 
+-- a row as it is stored: with the rowid first, which is new, or is the first column, whose own place has NULL
+abbrev pub laid_out : {X : Type 0} → X → Option ℕ → List X → List X
+laid_out null None given = null ∷ given
+laid_out null (Some key) (first ∷ given) = first ∷ null ∷ given
+laid_out null (Some key) [] = []
+
 -- the columns of a row, as a query shows them
 abbrev pub cells : AnyTable → Row → Row
 cells table row = drop 1 (shown table row)
@@ -309,9 +281,3 @@ value_of (cell.Bytes bytes) = Bytes bytes
 -- the columns of a row
 abbrev pub values : Cells → Row
 values row = map value_of row
-
--- the text that takes the rows of a group out of their table
-abbrev pub removal : Group → List ℕ
-removal (group.Key table) = (sql_of table).delete
-removal group.List = codes "DELETE FROM choice12 WHERE round = ?1 AND student = ?2"
-removal group.Placed = codes "DELETE FROM placement12 WHERE round = ?1"

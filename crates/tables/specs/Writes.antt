@@ -11,7 +11,7 @@ use Rattle.sqlite_schema.specs.Rules.{equal}
 use Rattle.sqlite_schema.specs.declared.schema.Keys.TheVariants.{Enforced}
 use Rattle.row_model.specs.declared.row.Group.{Group}
 use Rattle.row_model.specs.Rows.{shared_by}
-use Rattle.tables.specs.Table.{Place, Rules, Sql, Lists, table_at}
+use Rattle.tables.specs.Table.{Place, Rules, Lists, table_at}
 use Rattle.tables.specs.Keyed.{Stands}
 use Rattle.tables.specs.Inert.{IsActedOn}
 use Rattle.tables.specs.declared.statements.Entering.{Entering}
@@ -68,12 +68,7 @@ Leaves group key = let s = shared_by group in Removes (table_at s.0) (goes_on s.
 unfoldable pub Puts : (Place → AnyTable) → Row → Row → Database → Database → Type 0
 Puts table key given = TransformsRows table (with_row key given)
 
--- the statement that brings a row into its table so
-abbrev pub entering : Entering → Sql → List ℕ
-entering InPlace sql = sql.update
-entering New sql = sql.insert
-
--- and what it does
+-- what the statement does that brings a row into its table so
 abbrev pub Enters : Entering → (Place → AnyTable) → Row → Row → Database → Database → Type 0
 Enters InPlace table key row = Puts table key row
 Enters New table key row = Adds table row

@@ -5,7 +5,7 @@ ghost use Rattle.sqlite.specs.Effect.{IsDatabase};
 ghost use Rattle.sqlite.specs.State.{HasCleanDisk, IsNotRun, IsUnchanged, Survives};
 ghost use Rattle.sqlite.specs.Held.{state};
 ghost use Rattle.tables.specs.declared.fault.TableFault.TheVariants.{Storage};
-ghost use Rattle.tables.specs.Causes.{IsCaused, IsUnready};
+ghost use Rattle.tables.specs.Causes.{IsCaused};
 ghost use Rattle.tables.specs.Faults.{fault_of};
 ghost use Rattle.tables.specs.Steps.{Rests};
 
@@ -18,7 +18,7 @@ pub fn need_open<S: Alter>(conn: &mut Connection<S>) -> Result<(), TableFault>
     ensures sound { HasCleanDisk (state S.Store conn.new) → OnOk result (IsDatabase (state S.Store conn.new).now) }
     ensures rests { HasCleanDisk (state S.Store conn.new) → Rests (state S.Store conn.old) (state S.Store conn.new) }
     ensures told { HasCleanDisk (state S.Store conn.new) → IfErr result (λ fault. (e : Error) × IsNotRun (state S.Store conn.old) (state S.Store conn.new) (codes "SELECT 1") [] e × (fault ≡ fault_of e)) }
-    ensures cause { IsCaused Storage IsUnready result (state S.Store conn.old) (state S.Store conn.new) }
+    ensures cause { IsCaused Storage (λ _ _. ⊥) result (state S.Store conn.old) (state S.Store conn.new) }
     ensures mode { conn.old.in_transaction ≡ false → conn.new.in_transaction ≡ false }
     ensures survives { Survives (state S.Store conn.old) (state S.Store conn.new) (λ _. ⊥) }
 {

@@ -2,8 +2,8 @@
 
 ghost use Rattle.std.specs.Prelude.{◌≡◌, length};
 ghost use Rattle.row_model.specs.Rows.{kinds_of};
-ghost use Rattle.tables.specs.Table.{removal, shape_of, sql_of};
-ghost use Rattle.tables.specs.Inside.Table.{texts_by, told_by};
+ghost use Rattle.tables.specs.Table.{shape_of, sql_of};
+ghost use Rattle.tables.specs.Inside.Table.{texts_by, told_by, removal};
 
 use row_model::{Group, Table};
 use sqlite_schema::schema::Kind;

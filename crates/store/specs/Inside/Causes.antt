@@ -2,7 +2,7 @@
 use Rattle.std.specs.Prelude.{ℕ, Option}
 use Rattle.sqlite.specs.Effect.{Database}
 use Rattle.row_model.specs.declared.table.Table.{Table}
-use Rattle.tables.specs.Table.{sql_of}
+use Rattle.tables.specs.Table.{table_at}
 use Rattle.tables.specs.Causes.{IsUnread}
 use Rattle.sqlite_rules.specs.Lists.{Has}
 use Rattle.editions.specs.declared.Edition.{Edition as AnEdition}
@@ -12,4 +12,4 @@ use Rattle.store.specs.Editions.{rolls_of}
 pub record IsHinderedReadingIn (e : AnEdition) (limit : Option ℕ) (db : Database) : Type 0 where
   pub table : Table
   pub among : Has (rolls_of e) table
-  pub hindered : IsUnread (sql_of table).select limit db
+  pub hindered : IsUnread (table_at table) limit db

@@ -1,11 +1,15 @@
 -- For proofs alone. The tables of the product, as a schema lists them, and the rows that they hold.
-use Rattle.std.specs.Prelude.{ℕ, List, map}
+use Rattle.std.specs.Prelude.{ℕ, List, map, codes}
 use Rattle.std.specs.Borrow.{Bor}
 use Rattle.sqlite.specs.Kind.{Kind}
 use Rattle.tables.specs.declared.table.Shape.{Shape as Given}
 use Rattle.tables.specs.declared.table.ToldColumn.{ToldColumn}
 use Rattle.tables.specs.declared.table.Link.{Link}
-use Rattle.tables.specs.Table.{TableShape, Sql}
+use Rattle.row_model.specs.declared.row.Group.{Group}
+use Rattle.row_model.specs.declared.row.Group.TheVariants as group
+use Rattle.tables.specs.declared.statements.Entering.{Entering}
+use Rattle.tables.specs.declared.statements.Entering.TheVariants.{InPlace, New}
+use Rattle.tables.specs.Table.{TableShape, Sql, sql_of}
 
 -- what the program declares of a column
 abbrev pub column_by : ToldColumn → List ℕ × Kind
@@ -33,3 +37,14 @@ told_by given = record {
 -- and of its statements
 abbrev pub texts_by : Given → Sql
 texts_by given = record { create = given.create.now; insert = given.insert.now; update = given.update.now; delete = given.delete.now; select = given.select.now }
+
+-- the statement that brings a row into its table so
+abbrev pub entering : Entering → Sql → List ℕ
+entering InPlace sql = sql.update
+entering New sql = sql.insert
+
+-- the text that takes the rows of a group out of their table
+abbrev pub removal : Group → List ℕ
+removal (group.Key table) = (sql_of table).delete
+removal group.List = codes "DELETE FROM choice12 WHERE round = ?1 AND student = ?2"
+removal group.Placed = codes "DELETE FROM placement12 WHERE round = ?1"

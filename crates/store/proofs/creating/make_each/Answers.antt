@@ -1,21 +1,21 @@
 use Rattle.std.proofs.Common.{◌≤◌, length, refl, arith, ◌∙◌}
 use Rattle.tables.proofs.Runs.{part_none, part_ok, part_then}
 use Rattle.store.proofs.NewTables.{made_all, made_more, made_none}
-use Rattle.std.proofs.Common.{◌≡◌, ℕ, [], Err, Option, rules}
+use Rattle.std.proofs.Common.{◌≡◌, ℕ, Err, Option, rules}
 use Rattle.tables.specs.declared.fault.TableFault.TheVariants.{Memory}
-use Rattle.tables.proofs.Starved.{lacks, lacks_after}
+use Rattle.tables.proofs.Starved.{lacks_after}
 use Rattle.sqlite.specs.Effect.{Database}
 use Rattle.row_model.specs.declared.table.Table.{Table}
 use Rattle.std.proofs.lemmas.Option.{slice_get-get_or}
-use Rattle.tables.specs.Causes.{IsHindered, Went}
-use Rattle.tables.specs.Table.{sql_of}
+use Rattle.tables.specs.Causes.{IsTableMade, IsUnmade}
+use Rattle.tables.specs.Table.{made_here}
 use Rattle.sqlite.specs.State.{HasCleanDisk}
 use Rattle.sqlite.specs.Held.{state}
 use Rattle.store.proofs.Causes.{one_refused, ran_all, ran_more}
 use Rattle.store.proofs.creating.make_each.Goals as goal
 
 abbrev creates : Table → Option ℕ → Database → Database → Type 0
-creates table = Went (sql_of table).create []
+creates table limit = IsTableMade (made_here table 0)
 
 pub loop-table-init : goal.loop-table-init
 loop-table-init g c = (refl, part_none _ _ (made_none _), λ clean. refl)
@@ -41,7 +41,7 @@ returns-in_err-make-clause-cause g c inside clean h =
     let early : HasCleanDisk (state g.S.Store c.loop-table.tx.conn.now) = omega (arith, c.make.ensures.step.survives.clean) in
     let made = so_far.did early in
     let there = slice_get-get_or c.args.tables.now c.loop-table.table-index _ c.loop-table-test.true in
-    one_refused creates (λ table. IsHindered (sql_of table).create []) c.loop-table.table-index c.args.tables.now _ _ _ _ there so_far.survives early c.make.ensures.step.survives.counts (c.loop-table.invariant.2 early) (c.make.ensures.cause (made.mode ∙ inside) clean (search rules))
+    one_refused creates (λ table limit. IsUnmade (made_here table 0)) c.loop-table.table-index c.args.tables.now _ _ _ _ there so_far.survives early c.make.ensures.step.survives.counts (c.loop-table.invariant.2 early) (c.make.ensures.cause (made.mode ∙ inside) clean (search rules))
 
 pub returns-clause-ran : goal.returns-clause-ran
 returns-clause-ran g c clean =
@@ -53,4 +53,4 @@ returns-in_err-make-clause-starved g c clean inside h =
     let early : HasCleanDisk (state g.S.Store c.loop-table.tx.conn.now) = omega (arith, c.make.ensures.step.survives.clean) in
     let made = c.loop-table.invariant.1.did early in
     let was : c.make.result ≡ Err Memory = search rules in
-    lacks_after _ _ _ made.committed (lacks _ _ _ _ (rw was at (c.make.ensures.told clean (made.mode ∙ inside))))
+    lacks_after _ _ _ made.committed (c.make.ensures.starved clean (made.mode ∙ inside) was)

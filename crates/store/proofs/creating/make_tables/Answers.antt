@@ -1,8 +1,12 @@
-use Rattle.std.proofs.Common.{◌∙◌, arith, refl, rules}
+use Rattle.std.proofs.Common.{◌∙◌, inr, arith, refl, rules}
 use Rattle.sqlite.specs.State.{HasCleanDisk}
 use Rattle.sqlite.specs.Held.{state}
-use Rattle.tables.proofs.Starved.{lacks, lacks_after}
+use Rattle.tables.proofs.Starved.{lacks_after}
+use Rattle.tables.specs.declared.statements.Entering.TheVariants.{New}
+use Rattle.tables.specs.Causes.{IsCausedInside, IsRefusedIn}
+use Rattle.tables.proofs.Causes.{stopped_after}
 use Rattle.tables.proofs.Runs.{part_then}
+use Rattle.store.specs.Causes.{IsHinderedCreating, OfNumber}
 use Rattle.store.proofs.NewTables.{created}
 use Rattle.store.proofs.creating.make_tables.Goals as goal
 
@@ -13,7 +17,7 @@ pub returns-clause-starved : goal.returns-clause-starved
 returns-clause-starved g c clean inside h =
     let early : HasCleanDisk (state g.S.Store c.make_each.new.tx.conn.now) = omega (arith, c.enter.ensures.step.survives.clean) in
     let made = c.in_ok-make_each.ensures.step.did early in
-    lacks_after _ _ _ made.committed (lacks _ _ _ _ (rw h at (c.enter.ensures.told clean (made.mode ∙ inside))))
+    lacks_after _ _ _ made.committed (c.enter.ensures.starved clean (made.mode ∙ inside) h)
 
 pub returns-in_err-make_each-clause-step : goal.returns-in_err-make_each-clause-step
 returns-in_err-make_each-clause-step g c = search rules
@@ -28,4 +32,10 @@ pub returns-clause-same_reference : goal.returns-clause-same_reference
 returns-clause-same_reference g c = search rules
 
 pub returns-clause-cause : goal.returns-clause-cause
-returns-clause-cause g c = search rules
+returns-clause-cause g c inside clean h =
+    let early : HasCleanDisk (state g.S.Store c.make_each.new.tx.conn.now) = omega (arith, c.enter.ensures.step.survives.clean) in
+    let done = c.in_ok-make_each.ensures.step in
+    let made = done.did early in
+    let cause : IsCausedInside (λ limit db. OfNumber New (IsRefusedIn db) limit db) c.enter.result (state g.S.Store c.make_each.new.tx.conn.now) (state g.S.Store c.enter.new.tx.conn.now) = rw c.number_of.ensures at c.enter.ensures.cause in
+    stopped_after (λ limit db. OfNumber New (IsRefusedIn db) limit db) IsHinderedCreating _ _ _ done.survives early c.enter.ensures.step.survives.counts
+    (λ it. inr (record { between = (state g.S.Store c.make_each.new.tx.conn.now).now; ran = c.in_ok-make_each.ensures.ran early; hindered = it })) (cause (made.mode ∙ inside) clean h)

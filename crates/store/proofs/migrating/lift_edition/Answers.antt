@@ -2,13 +2,12 @@ use Rattle.std.proofs.Common.{◌≡◌, Err, inl, inr, arith, rules}
 use Rattle.sqlite.specs.State.{HasCleanDisk}
 use Rattle.sqlite.specs.Held.{state}
 use Rattle.tables.specs.declared.fault.TableFault.TheVariants.{Memory}
-use Rattle.tables.proofs.Starved.{lacks, lacks_after}
-use Rattle.row_model.specs.declared.table.Table.TheVariants.{Edition}
-use Rattle.tables.specs.Causes.{IsCausedInside, IsHindered}
-use Rattle.tables.specs.Table.{sql_of}
+use Rattle.tables.proofs.Starved.{lacks_after}
+use Rattle.tables.specs.Causes.{IsCausedInside, IsRefusedIn}
+use Rattle.tables.specs.declared.statements.Entering.TheVariants.{InPlace}
 use Rattle.tables.proofs.Causes.{stopped_after, stopped_as}
 use Rattle.tables.proofs.Runs.{part_then}
-use Rattle.store.specs.Causes.{IsHinderedToAddTables, IsHinderedToMigrate, latest_number}
+use Rattle.store.specs.Causes.{IsHinderedToAddTables, IsHinderedToMigrate, OfNumber}
 use Rattle.store.proofs.Migrated.{lifts_edition_by}
 use Rattle.store.proofs.migrating.lift_edition.Goals as goal
 
@@ -17,8 +16,8 @@ returns-clause-step g c = part_then _ _ _ _ _ _ _ _ (λ _ p q. lifts_edition_by 
 
 pub returns-in_err-enter-clause-cause : goal.returns-in_err-enter-clause-cause
 returns-in_err-enter-clause-cause g c inside clean h =
-    let cause : IsCausedInside (IsHindered (sql_of Edition).update latest_number) c.enter.result (state g.S.Store c.args.tx.now.conn.now) (state g.S.Store c.enter.new.tx.conn.now) = rw c.number_of.ensures at c.enter.ensures.cause in
-    stopped_as (IsHindered (sql_of Edition).update latest_number) (IsHinderedToMigrate c.args.edition c.args.changes.now) _ _ (λ it. inr (inl it)) (cause inside clean (search rules))
+    let cause : IsCausedInside (λ limit db. OfNumber InPlace (IsRefusedIn db) limit db) c.enter.result (state g.S.Store c.args.tx.now.conn.now) (state g.S.Store c.enter.new.tx.conn.now) = rw c.number_of.ensures at c.enter.ensures.cause in
+    stopped_as (λ limit db. OfNumber InPlace (IsRefusedIn db) limit db) (IsHinderedToMigrate c.args.edition c.args.changes.now) _ _ (λ it. inr (inl it)) (cause inside clean (search rules))
 
 pub returns-clause-cause : goal.returns-clause-cause
 returns-clause-cause g c inside clean h =
@@ -32,7 +31,7 @@ returns-clause-cause g c inside clean h =
 pub returns-in_err-enter-clause-starved : goal.returns-in_err-enter-clause-starved
 returns-in_err-enter-clause-starved g c clean inside h =
     let was : c.enter.result ≡ Err Memory = search rules in
-    lacks _ _ _ _ (rw was at (c.enter.ensures.told clean inside))
+    c.enter.ensures.starved clean inside was
 
 pub returns-clause-starved : goal.returns-clause-starved
 returns-clause-starved g c clean inside h =

@@ -31,11 +31,11 @@ returns-in-Put-clause-cause g c = rw c.in-Put.is (rw (c.table.ensures, c.cells.e
 pub returns-in-Add-clause-ran : goal.returns-in-Add-clause-ran
 returns-in-Add-clause-ran g c = rw c.in-Add.is (rw (c.table-in-Add.ensures, c.cells-in-Add.ensures.cells) at c.enter-in-Add.ensures.ran)
 
-pub returns-in-Add-clause-told : goal.returns-in-Add-clause-told
-returns-in-Add-clause-told g c = rw c.in-Add.is (rw (c.table-in-Add.ensures, c.cells-in-Add.ensures.cells) at c.enter-in-Add.ensures.told)
-
 pub returns-in-Add-clause-cause : goal.returns-in-Add-clause-cause
 returns-in-Add-clause-cause g c = rw c.in-Add.is (rw (c.table-in-Add.ensures, c.cells-in-Add.ensures.cells) at c.enter-in-Add.ensures.cause)
 
 pub returns-in-Remove-clause-ran : goal.returns-in-Remove-clause-ran
 returns-in-Remove-clause-ran g c = rw c.in-Remove.is (rw (c.group.ensures, c.cells-in-Remove.ensures.cells) at c.leave.ensures.ran)
+
+pub returns-in-Remove-clause-cause : goal.returns-in-Remove-clause-cause
+returns-in-Remove-clause-cause g c = rw c.in-Remove.is (rw (c.group.ensures, c.cells-in-Remove.ensures.cells) at c.leave.ensures.cause)

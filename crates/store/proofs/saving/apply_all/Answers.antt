@@ -1,6 +1,6 @@
 use Rattle.std.proofs.Common.{◌≡◌, Err, refl, ◌∙◌}
 use Rattle.tables.specs.declared.fault.TableFault.TheVariants.{Memory}
-use Rattle.tables.proofs.Starved.{lacks, lacks_after}
+use Rattle.tables.proofs.Starved.{lacks_after}
 use Rattle.tables.proofs.Runs.{part_none, part_then}
 use Rattle.store.proofs.ChangesInOrder.{changes_more, changes_none}
 use Rattle.std.proofs.Common.{arith, length, rules}
@@ -37,4 +37,4 @@ returns-in_err-apply-clause-starved g c clean inside h =
     let early : HasCleanDisk (state g.S.Store c.loop-change.tx.conn.now) = omega (arith, c.apply.ensures.step.survives.clean) in
     let made = c.loop-change.invariant.1.did early in
     let was : c.apply.result ≡ Err Memory = search rules in
-    lacks_after _ _ _ made.committed (lacks _ _ _ _ (rw was at (c.apply.ensures.told clean (made.mode ∙ inside))))
+    lacks_after _ _ _ made.committed (c.apply.ensures.starved clean (made.mode ∙ inside) was)

@@ -1,9 +1,9 @@
-use Rattle.std.proofs.Common.{◌≡◌, Err, inl, inr, sym, ap, ◌∙◌, rules}
+use Rattle.std.proofs.Common.{◌≡◌, Err, sym, ap, ◌∙◌, rules}
 use Rattle.sqlite.specs.State.{State as Seen}
 use Rattle.sqlite.specs.Held.{state}
 use Rattle.tables.specs.declared.fault.TableFault.TheVariants.{Storage}
 use Rattle.tables.proofs.Causes.{stopped_as}
-use Rattle.store.specs.Causes.{IsHinderedAmong, IsHinderedToSave}
+use Rattle.store.specs.Causes.{IsHinderedAmong}
 use Rattle.store.specs.Saving.{Applies}
 use Rattle.store.proofs.Causes.{of_storage}
 use Rattle.store.proofs.Commit.{left_after, dropped_by}
@@ -13,7 +13,7 @@ use Rattle.store.proofs.saving.save_all.Goals as goal
 pub returns-in_err-need_open-clause-cause : goal.returns-in_err-need_open-clause-cause
 returns-in_err-need_open-clause-cause g c settled clean h =
     let gives = rw h at c.from_residual.ensures.1 in
-    stopped_as _ _ _ _ (λ it. inl it) (c.need_open.ensures.cause clean (c.in_err-need_open.was ∙ ap Err (of_storage _ (sym gives))))
+    stopped_as _ _ _ _ (λ it. absurd it) (c.need_open.ensures.cause clean (c.in_err-need_open.was ∙ ap Err (of_storage _ (sym gives))))
 
 -- How the transaction ended is searched for, so that a body that ends it otherwise is refused at it.
 pub returns-in_err-apply_all-clause-crash : goal.returns-in_err-apply_all-clause-crash
@@ -25,8 +25,8 @@ pub returns-in_err-apply_all-clause-cause : goal.returns-in_err-apply_all-clause
 returns-in_err-apply_all-clause-cause g c settled clean h =
     let begins = ap (state g.S.Store) c.transaction-tx.ensures.begun in
     let was : c.apply_all.result ≡ Err Storage = search rules in
-    stopped_after_all (IsHinderedAmong c.args.changes.now) (IsHinderedToSave c.args.changes.now) (state g.S.Store c.args.conn.now) (state g.S.Store c.need_open.new.conn) (state g.S.Store c.transaction-tx.result.conn.now) (state g.S.Store c.apply_all.new.tx.conn.now) _
-    c.in_ok-need_open.ensures.same c.need_open.ensures.survives begins c.apply_all.ensures.step.survives (λ limit db it. inr it) (λ early. c.apply_all.ensures.cause (ap (λ (s : Seen). s.in_transaction) begins) early was) (search rules) clean
+    stopped_after_all (IsHinderedAmong c.args.changes.now) (IsHinderedAmong c.args.changes.now) (state g.S.Store c.args.conn.now) (state g.S.Store c.need_open.new.conn) (state g.S.Store c.transaction-tx.result.conn.now) (state g.S.Store c.apply_all.new.tx.conn.now) _
+    c.in_ok-need_open.ensures.same c.need_open.ensures.survives begins c.apply_all.ensures.step.survives (λ limit db it. it) (λ early. c.apply_all.ensures.cause (ap (λ (s : Seen). s.in_transaction) begins) early was) (search rules) clean
 
 pub returns-clause-ok : goal.returns-clause-ok
 returns-clause-ok g c = search rules

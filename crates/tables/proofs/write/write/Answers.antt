@@ -1,9 +1,10 @@
-use Rattle.std.proofs.Common.{◌≡◌, inl, inr, rules}
+use Rattle.std.proofs.Common.{◌≡◌, inl, inr, sym, rules}
 use Rattle.std.proofs.lemmas.Bool.{cases_Bool}
 use Rattle.sqlite.specs.Held.{state}
-use Rattle.tables.specs.declared.fault.TableFault.TheVariants.{Storage}
+use Rattle.tables.specs.declared.fault.TableFault.TheVariants.{Memory, Storage}
 use Rattle.tables.specs.Faults.{fault_of}
-use Rattle.tables.proofs.Causes.{stopped}
+use Rattle.tables.proofs.Ends.{stopped}
+use Rattle.tables.proofs.Starved.{lacks}
 use Rattle.tables.proofs.write.write.Goals as goal
 
 pub returns-in-Ok-clause-step : goal.returns-in-Ok-clause-step
@@ -26,5 +27,7 @@ returns-in-Err-clause-cause g c inside clean h =
     let other : fault_of c.in-Err.error ≡ Storage = let told = c.from.ensures in cc in
     stopped _ _ _ _ _ other (rw (c.in-Err.is, c.values.ensures.values) at (c.execute.ensures.runs clean inside))
 
-pub returns-in-Err-clause-told : goal.returns-in-Err-clause-told
-returns-in-Err-clause-told g c = search rules
+pub returns-in-Err-clause-starved : goal.returns-in-Err-clause-starved
+returns-in-Err-clause-starved g c clean inside h =
+    let lack : fault_of c.in-Err.error ≡ Memory = let told = c.from.ensures in cc in
+    lacks _ _ _ _ (c.in-Err.error, rw (c.in-Err.is, c.values.ensures.values) at (c.execute.ensures.runs clean inside), sym lack)

@@ -7,7 +7,7 @@ use Rattle.outside.specs.Changes.{MayChange}
 use Rattle.sqlite.specs.Held.{state}
 use Rattle.sqlite.specs.State.{State as Seen}
 use Rattle.tables.specs.Causes.{IsCaused}
-use Rattle.store.specs.Causes.{IsHinderedToSave}
+use Rattle.store.specs.Causes.{IsHinderedAmong}
 use Rattle.rolls.specs.declared.request.Request.{Request}
 use Rattle.rolls.specs.declared.request.Done.{Done}
 use Rattle.rolls.specs.declared.refusal.Refusal.TheVariants.{Storage}
@@ -19,7 +19,7 @@ use Rattle.desk.proofs.persistent.PersistentOffice.change.Goals as goal
 
 -- changes of a request that can't be saved hinder it
 hindered_by : {A E : Type 0} (storage : E) (result : Result A E) (office next : State) (q : Request) (done : Done) (old new : Seen) → CarriesOut office q next → MayChange office q done.changes.items → Transforms done.changes.items office next
-    → IsCaused storage (IsHinderedToSave done.changes.items) result old new → IsCaused storage (IsHinderedToAsk office q) result old new
+    → IsCaused storage (IsHinderedAmong done.changes.items) result old new → IsCaused storage (IsHinderedToAsk office q) result old new
 hindered_by storage result office next q done old new carried may transforms caused clean told =
     let stopped = caused clean told in
     record {

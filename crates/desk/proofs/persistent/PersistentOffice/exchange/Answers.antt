@@ -15,7 +15,7 @@ use Rattle.desk.proofs.SavedRows.{saved_keeps, kept_keeps}
 use Rattle.sqlite.specs.State.{HasCleanDisk}
 use Rattle.rolls.specs.declared.refusal.Refusal.TheVariants.{Damaged as TheDamaged, Memory as TheMemory}
 use Rattle.store.specs.declared.fault.StoreFault.TheVariants.{Damaged, Memory}
-use Rattle.store.specs.Causes.{IsHinderedToSave}
+use Rattle.store.specs.Causes.{IsHinderedAmong}
 use Rattle.tables.specs.Causes.{IsStopped}
 use Rattle.desk.proofs.SavedRows.{was_storage}
 use Rattle.desk.proofs.persistent.PersistentOffice.exchange.Goals as goal
@@ -68,12 +68,12 @@ returns-in-Err-clause-acted_on g c =
 
 -- and why else it is returned
 caused_so : (given changes : List Change) (before seen new : Seen) (fault : StoreFault) (refusal : Refusal) → given ≡ changes → before ≡ seen → (fault ≡ Memory → refusal ≡ TheMemory) → (fault ≡ Damaged → refusal ≡ TheDamaged)
-    → ((AreActedOn before.now.schema → ⊥) → HasCleanDisk new → ◌≡◌ {A = Result (Unit {0}) StoreFault} (Err fault) (Err Storage) → IsStopped (IsHinderedToSave given) before new)
-    → (AreActedOn seen.now.schema → ⊥) → HasCleanDisk new → ◌≡◌ {A = Result Reply Refusal} (Err refusal) (Err TheStorage) → IsStopped (IsHinderedToSave changes) seen new
+    → ((AreActedOn before.now.schema → ⊥) → HasCleanDisk new → ◌≡◌ {A = Result (Unit {0}) StoreFault} (Err fault) (Err Storage) → IsStopped (IsHinderedAmong given) before new)
+    → (AreActedOn seen.now.schema → ⊥) → HasCleanDisk new → ◌≡◌ {A = Result Reply Refusal} (Err refusal) (Err TheStorage) → IsStopped (IsHinderedAmong changes) seen new
 caused_so given changes before seen new fault refusal e f memory damaged caused quiet clean told =
     let is : refusal ≡ TheStorage = cc in
-    subst (λ (z : Seen). IsStopped (IsHinderedToSave changes) z new) f
-    (subst (λ (cs : List Change). IsStopped (IsHinderedToSave cs) before new) e (caused (λ acted. quiet (subst (λ (z : Seen). AreActedOn z.now.schema) f acted)) clean (ap Err (was_storage fault refusal memory damaged is))))
+    subst (λ (z : Seen). IsStopped (IsHinderedAmong changes) z new) f
+    (subst (λ (cs : List Change). IsStopped (IsHinderedAmong cs) before new) e (caused (λ acted. quiet (subst (λ (z : Seen). AreActedOn z.now.schema) f acted)) clean (ap Err (was_storage fault refusal memory damaged is))))
 
 pub returns-in-Ok-clause-saved : goal.returns-in-Ok-clause-saved
 returns-in-Ok-clause-saved g c =

@@ -5,7 +5,7 @@ use Rattle.sqlite.specs.Held.{state}
 use Rattle.tables.specs.Causes.{IsCaused}
 use Rattle.tables.specs.Steps.{IsKept, MayRecoverTo}
 use Rattle.store.specs.declared.fault.StoreFault.TheVariants.{Storage}
-use Rattle.store.specs.Causes.{IsHinderedToSave}
+use Rattle.store.specs.Causes.{IsHinderedAmong}
 use Rattle.store.specs.Saving.{AreInert, IsSaving, Saves}
 use Rattle.store.proofs.ChangesInOrder.{saving_call, saves_left}
 use Rattle.store.proofs.store.Store.save.Goals as goal
@@ -31,7 +31,7 @@ returns-clause-err g c =
 
 pub returns-clause-cause : goal.returns-clause-cause
 returns-clause-cause g c settled quiet =
-    subst (λ k. k.in_transaction ≡ false → IsCaused Storage (IsHinderedToSave c.args.changes.now) c.save_all.result (state g.S.Store k) (state g.S.Store c.save_all.new.conn)) c.self.view_is c.save_all.ensures.cause settled
+    subst (λ k. k.in_transaction ≡ false → IsCaused Storage (IsHinderedAmong c.args.changes.now) c.save_all.result (state g.S.Store k) (state g.S.Store c.save_all.new.conn)) c.self.view_is c.save_all.ensures.cause settled
 
 pub returns-clause-faults : goal.returns-clause-faults
 returns-clause-faults g c = search rules

@@ -1,0 +1,24 @@
+-- The plainest query is a statement under any schema.
+use Rattle.std.proofs.Common.{◌≡◌, ℕ, List, [], length, codes, Ok, refl, sym, ap, arith}
+use Rattle.sqlite.specs.Schema.{Schema}
+use Rattle.sqlite.specs.Listing.{understood, listing_schema}
+use Rattle.sqlite.specs.State.{State, IsNotRun}
+use Rattle.sqlite_resolve.specs.declared.compiled.Compiled.{Compiled}
+use Rattle.sqlite_tied.specs.Compute.{everything}
+use Rattle.sqlite.specs.declared.error.Error.{Error}
+use Rattle.tables.specs.declared.fault.TableFault.TheVariants.{Storage}
+use Rattle.tables.specs.Faults.{fault_of}
+use Rattle.tables.specs.Causes.{IsStopped}
+use Rattle.tables.specs.Inside.Causes.{IsText}
+use Rattle.tables.proofs.Ends.{not_run}
+
+plainest : (schema : Schema) → (c : Compiled) × (understood schema (codes "SELECT 1") ≡ Ok c) × (c.tail ≡ 8) × (c.names ≡ []) × (c.formats ≡ [])
+unfolding understood everything listing_schema
+plainest schema = (_, refl, refl, refl, refl)
+
+ready_text : (schema : Schema) → IsText schema (codes "SELECT 1") []
+ready_text schema = let it = plainest schema in record { meant = it.0; is = it.1; whole = omega (arith, it.2); counted = sym (ap (λ (names : List (List ℕ)). length names) it.3); plain = it.4 }
+
+-- so it is refused by nothing but the disk
+pub always_ready : (old new : State) (e : Error) → fault_of e ≡ Storage → IsNotRun old new (codes "SELECT 1") [] e → IsStopped (λ _ _. ⊥) old new
+always_ready old new e other h = record { why = not_run (codes "SELECT 1") [] old new ⊥ (λ none. none (ready_text old.now.schema)) e other h }
