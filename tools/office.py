@@ -205,8 +205,8 @@ class Bench:
         return [int(number) for number in pathlib.Path(self.at("counted")).read_text(encoding="utf-8").split()]
 
     def line(self, words, request=None, limit=None, **env):
-        """What a command prints on both, its status, and what the one connection that it may serve is answered. `env` is for the library,
-        and `limit` done in the process before."""
+        """What a command prints on both, its status, and what the one connection that it may serve is answered. The line of a new database
+        is left out: it goes by the tables, whose rows are compared. `env` is for the library, and `limit` done in the process before."""
         env = {**os.environ, "LD_PRELOAD": self.library, "COUNTED": "" if limit else self.at("counted"), **env}
         how = {"cwd": self.folder, "env": env, "stdout": subprocess.PIPE, "stderr": subprocess.PIPE, "text": True, "preexec_fn": limit}
         with subprocess.Popen([self.program, *words.split()], **how) as it:
@@ -215,7 +215,7 @@ class Bench:
             if first.startswith("listening"):
                 answer = subprocess.run(["curl", "-s", *request], capture_output=True, text=True).stdout
             out, err = it.communicate(timeout=600)
-        return first + out, err, it.returncode, answer
+        return first + out, re.sub(r"\Anew \S+\n", "", err), it.returncode, answer
 
     def steps(self, lines):
         """Each line's number, the database that those before it leave, to which is done what the line says, its words and its request."""
