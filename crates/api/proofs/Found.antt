@@ -1,13 +1,8 @@
 -- What a path finds in the rows of a router.
 use Rattle.std.proofs.Common.{◌≡◌, ℕ, zero, suc, ◌-◌, ◌==◌, ◌⊎◌, inl, inr, Bool, true, false, cond, not, List, [], ◌∷◌, ◌++◌, length, Option, Some, None, is_some, nat_lt, ◌&&◌, if◌then◌else◌, refl, sym, subst, ap, ◌∙◌, arith}
-use Rattle.std.proofs.lemmas.Bool.{eqb-true}
+use Rattle.api.proofs.Common.{eqb-true, all_ascii_digits, digits_value, first, or_else, has_slash, own, step, slash, RowsOf, Numbers, is_segment, fits}
 use Rattle.std.specs.Char.{is_ascii_digit}
-use Rattle.std.specs.Str.{all_ascii_digits}
-use Rattle.std.specs.Str.Parse.{digits_value}
-use Rattle.matchit.specs.Seek.{first, seek, param_step, or_else, has_slash, own, step, slash}
-use Rattle.matchit.specs.Rows.{RowsOf}
-use Rattle.api.specs.declared.routes.Segments.TheVariants.{Numbers}
-use Rattle.api.specs.Routes.{is_segment, fits}
+use Rattle.matchit.specs.Seek.{seek, param_step}
 
 -- the rows that go on with these bytes
 abbrev pub steps : {K : Type 0} → List ℕ → RowsOf K → RowsOf K

@@ -1,10 +1,7 @@
 -- A body in JSON.
 use Rattle.std.proofs.Common.{◌≡◌, ℕ, List, Some, None, Bool, true, false, if◌then◌else◌, ap, ◌∙◌, refl}
-use Rattle.std.specs.Str.{IsUtf8, is_utf8}
-use Rattle.std.proofs.lemmas.Str.{IsUtf8-from_is_utf8, is_utf8-from_IsUtf8}
-use Rattle.serde_json.specs.Data.{Data}
+use Rattle.api.proofs.Common.{IsUtf8, is_utf8, IsUtf8-from_is_utf8, is_utf8-from_IsUtf8, Data, json_of}
 use Rattle.serde_json.specs.Read.{read}
-use Rattle.api.specs.Members.{json_of}
 
 -- a text that reads is the body's JSON
 pub json_of-read : (body : List ℕ) (d : Data) → IsUtf8 body → read body ≡ Some d → json_of body ≡ Some d

@@ -1,3 +1,4 @@
+mod Common
 pub mod Refusals
 pub mod Json
 pub mod Found

@@ -1,11 +1,9 @@
 -- A message asks one thing.
 use Rattle.std.proofs.Common.{◌≡◌, inl, inr, ℕ, List, Result, sym, ap, ◌∙◌}
-use Rattle.rolls.specs.declared.refusal.Refusal.{Refusal}
+use Rattle.api.proofs.Common.{Refusal, Methods, first_of}
 use Rattle.rolls.specs.declared.request.Request.{Request}
 use Rattle.wire.specs.Run.{MessageText}
-use Rattle.api.specs.declared.routes.Methods.{Methods}
 use Rattle.api.specs.Requests.{Asks, asked_by, by_method}
-use Rattle.api.specs.Routes.{first_of}
 use Rattle.api.proofs.PathsOfRoutes.{one_name}
 
 pub one_asked : (said : MessageText) (asked other : Result Request Refusal) → Asks said asked → Asks said other → asked ≡ other

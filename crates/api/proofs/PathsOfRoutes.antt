@@ -1,24 +1,15 @@
 -- A path that is named finds its route, and what a path finds names it.
 use Rattle.std.proofs.Common.{MatchOption, ◌≡◌, ◌<◌, inl, inr, ℕ, ◌+◌, ◌-◌, ◌==◌, Bool, true, false, cond, ◌&&◌, ltb, leb, suc, ◌≤◌, List, [], ◌∷◌, ◌++◌, length, map, take, drop, get_or, Option, Some, None, option_map, unwrap_or, if◌then◌else◌, refl, sym, ap, ◌∙◌, subst, arith, append-nil, codes}
-use Rattle.std.specs.Str.{IsUtf8}
-use borrow.Author.Tests.{ltb-true, lt-ltb, le-ltb, le-leb, ne_eqb}
+use Rattle.api.proofs.Common.{IsUtf8, ltb-true, lt-ltb, le-ltb, le-leb, ne_eqb, IsUtf8-drop, IsCharBoundary-after_ascii, take_all, length-append, first, segment, own, RowsOf, RouteOf, Methods, Any, Numbers, is_segment, row, fixed, read, asked, opens, entry, list, numbered, import, fits, fill, AreSegments, AllFit, HasRow, NamesRoute, IsNowhere, first_of, NamesBy}
 use Rattle.std.proofs.Math.Seq.{drop-append_seam}
 use Rattle.std.proofs.Math.ListN.{get_or-append}
-use Rattle.std.proofs.lemmas.Str.{IsUtf8-drop, IsCharBoundary-after_ascii}
-use Rattle.std.proofs.lemmas.List.{take_all, length-append}
-use Rattle.matchit.specs.Seek.{first, segment, own}
-use Rattle.matchit.specs.Rows.{RowsOf}
-use Rattle.matchit.specs.Router.{RouteOf}
 use Rattle.matchit.specs.Params.{walk, wild_from, wild_stop, next_at, part_of, named, AllText}
 use Rattle.rolls.specs.declared.import.ImportKind.TheVariants as kind
 use Rattle.rolls.specs.declared.report.ReportKind.TheVariants as of
-use Rattle.api.specs.declared.routes.Methods.{Methods}
 use Rattle.api.specs.declared.routes.Segments.{Segments}
-use Rattle.api.specs.declared.routes.Segments.TheVariants.{Any, Numbers}
 use Rattle.api.specs.declared.routes.Call.TheVariants as call
 use Rattle.api.specs.declared.routes.Put.TheVariants as put
-use Rattle.api.specs.Routes.{is_segment, row, fixed, read, asked, opens, entry, list, numbered, import, fits, all_routes, fill, AreSegments, AllFit, HasRow, NamesRoute, IsNowhere, first_of}
-use Rattle.api.specs.Inside.Routes.{NamesBy}
+use Rattle.api.specs.Routes.{all_routes}
 use Rattle.api.proofs.Found.{steps, found_along, ends_here, param_leaf, number_leaf}
 use Rattle.api.proofs.Sound.{both, makes, AllPlain, plain_all}
 

@@ -1,13 +1,10 @@
 -- Routes that are put into a router one after another.
 use Rattle.std.proofs.Common.{◌≡◌, ℕ, ◌+◌, ◌<◌, ◌≤◌, Bool, true, false, not, ◌&&◌, List, [], ◌∷◌, length, map, drop, get_or, Option, Some, None, is_some, Result, Ok, Err, IfErr, OnOk, Bor, refl, sym, ap, ◌∙◌}
-use Rattle.std.proofs.lemmas.List.{at_drop_more, drop_all}
-use Rattle.matchit.specs.Rows.{RowsOf}
+use Rattle.api.proofs.Common.{at_drop_more, drop_all, RowsOf, RouteOf, Refused, InsertsRead, nearest, route_from, Methods}
 use Rattle.matchit.specs.Order.{placed}
 use Rattle.matchit.specs.Route.{Scan, parse_route}
-use Rattle.matchit.specs.Router.{RouteOf, Refused, InsertsRead, nearest, route_from}
 use Rattle.matchit.specs.declared.error.InsertError.{InsertError}
 use Rattle.matchit.specs.declared.error.InsertError.TheVariants.{Conflict, InvalidParam, InvalidParamSegment, InvalidCatchAll, OutOfMemory}
-use Rattle.api.specs.declared.routes.Methods.{Methods}
 use Rattle.api.proofs.Sound.{both}
 
 -- the rows with one more route, if its path reads well

@@ -1,8 +1,6 @@
 -- The reason phrases of refusals are short.
 use Rattle.std.proofs.Common.{◌≡◌, ◌≤◌, ℕ, ◌==◌, Bool, true, false, ◌||◌, List, [], ◌∷◌, length, refl, subst, arith}
-use Rattle.std.proofs.lemmas.Bool.{eqb-true}
-use Rattle.std.specs.List.{list_any}
-use Rattle.rolls.specs.RefusalInfo.{statuses}
+use Rattle.api.proofs.Common.{eqb-true, list_any, statuses}
 use Rattle.api.specs.Text.{reason_of}
 
 -- each of these statuses has a short reason

@@ -1,10 +1,7 @@
 -- A route that a path finds has a pattern of which the path is made.
 use Rattle.std.proofs.Common.{◌≡◌, ◌<◌, ◌⊎◌, inl, inr, ℕ, zero, suc, ◌-◌, ◌==◌, Bool, true, false, cond, not, ◌&&◌, ltb, List, [], ◌∷◌, ◌++◌, length, take, drop, Option, Some, None, option_map, if◌then◌else◌, refl, sym, ap, ◌∙◌, subst, arith, append-nil}
-use Rattle.std.proofs.lemmas.Bool.{eqb-true}
-use borrow.Author.Tests.{ltb-true}
-use Rattle.matchit.specs.Seek.{seek, param_step, or_else, has_slash, own, step, slash, segment, longest_from, longest_suffix, with_suffix, better, cuts, same_text}
-use Rattle.matchit.specs.Rows.{RowsOf}
-use Rattle.api.specs.Routes.{fill, is_segment, AreSegments, HasRow}
+use Rattle.api.proofs.Common.{eqb-true, ltb-true, or_else, has_slash, own, step, slash, segment, longest_from, longest_suffix, with_suffix, better, cuts, same_text, RowsOf, fill, is_segment, AreSegments, HasRow}
+use Rattle.matchit.specs.Seek.{seek, param_step}
 use Rattle.api.proofs.Found.{nothing_else}
 
 -- it is at the end of a segment

@@ -1,26 +1,8 @@
 -- The rows of an office have different keys: those of entries as the entries do, and those of choices by their lists and their places
 -- there.
 use Rattle.std.proofs.Common.{not, ◌+◌, ◌≡◌, ℕ, suc, ◌≤◌, Bool, true, false, cond, length, List, [], ◌∷◌, map, filter, Option, Some, None, refl, sym, ap, subst, ◌∙◌, arith}
-use Rattle.std.specs.Prelude.{flat_map, IsPermutation, ◌&&◌, ◌==◌}
-use Rattle.std.specs.List.{AllByRecursion, list_any}
-use Rattle.std.specs.Option.{option_map_or}
-use Rattle.std.specs.Cmp.{first_so}
-use Rattle.std.proofs.lemmas.Bool.{eq-eqb}
-use Rattle.std.proofs.lemmas.List.Elements.{All-from_recursion, recursion_from_All}
-use Rattle.std.proofs.lemmas.List.Sorted.{IsPermutation-sym, All-permutation, length_permutation}
-use Rattle.sqlite_keyed.proofs.ListLemmas.{IsPermutation-filter, none_counted, all_weaker, filter-filter, flat_map-map, flat_map-one, all-map, all-flat_map, all_of}
-use Rattle.row_model.specs.declared.cell.Cell.TheVariants.{Number}
-use Rattle.row_model.specs.declared.table.Table.{Table}
-use Rattle.row_model.specs.declared.table.Table.TheVariants.{Supervisor, Project, Student, Round, Import, RoundAim, Choice, Placement}
-use Rattle.row_model.specs.Rows.{Cells, begins, keyed, key_in}
-use Rattle.rolls.specs.Roll.{Key, same_key, find, rises}
-use Rattle.rolls.specs.State.{State, supervisor_key, project_key, student_key, round_key, aim_key, placement_key, import_key, choices_in}
-use Rattle.rolls.specs.Fit.{IsFit}
-use Rattle.rolls.specs.Rows.{choice_rows, list_rows, rows_of_round, supervisor_cells, project_cells, student_cells, round_cells, aim_cells, placement_cells, import_cells}
-use Rattle.rolls.proofs.EntryChange.{bytes_self}
-use Rattle.rolls.proofs.Shaped.{fit_shaped}
+use Rattle.change_laws.proofs.Common.{flat_map, IsPermutation, ◌&&◌, ◌==◌, AllByRecursion, list_any, option_map_or, first_so, eq-eqb, All-from_recursion, recursion_from_All, IsPermutation-sym, All-permutation, length_permutation, IsPermutation-filter, none_counted, all_weaker, filter-filter, flat_map-map, flat_map-one, all-map, all-flat_map, all_of, Number, Table, Supervisor, Project, Student, Round, Import, RoundAim, Choice, Placement, Cells, begins, keyed, key_in, Key, same_key, find, rises, State, supervisor_key, project_key, student_key, round_key, aim_key, placement_key, import_key, choices_in, IsFit, choice_rows, list_rows, rows_of_round, supervisor_cells, project_cells, student_cells, round_cells, aim_cells, placement_cells, import_cells, bytes_self, fit_shaped, RowsApart}
 use Rattle.change_laws.specs.Apart.{AreApart}
-use Rattle.change_laws.specs.Laws.{RowsApart}
 use Rattle.change_laws.proofs.Keyed.{begins_both, begins_self}
 use Rattle.change_laws.proofs.Changes.{AreFree}
 use Rattle.change_laws.proofs.KeyTests.{number_test, code_test}

@@ -1,17 +1,8 @@
 -- Changes one after another: what a change makes of rows in one order it makes of them in any other, and so it is with what is new among
 -- them.
 use Rattle.std.proofs.Common.{◌≡◌, Bool, true, false, not, cond, List, [], ◌∷◌, ◌++◌, map, refl, sym, ap, subst, ◌∙◌}
-use Rattle.std.specs.Prelude.{IsPermutation}
-use Rattle.std.specs.List.{list_any}
-use Rattle.std.proofs.lemmas.List.Sorted.{IsPermutation-refl, IsPermutation-cons, IsPermutation-map, IsPermutation-sym, IsPermutation-trans, IsPermutation-middle, list_any-IsPermutation}
-use Rattle.sqlite_keyed.proofs.ListLemmas.{IsPermutation-filter}
-use Rattle.row_model.specs.declared.table.Table.{Table}
-use Rattle.row_model.specs.declared.row.Change.{Change}
-use Rattle.row_model.specs.declared.row.Change.TheVariants.{Put, Add, Remove}
-use Rattle.row_model.specs.Rows.{AllRows, SameRows, Cells, begins, key_in, same_table}
-use Rattle.row_model.specs.Changes.{is_in_part, makes, changed, after_change, after_changes, IsFresh, AreFresh, TransformsRows}
+use Rattle.change_laws.proofs.Common.{IsPermutation, list_any, IsPermutation-refl, IsPermutation-cons, IsPermutation-map, IsPermutation-sym, IsPermutation-trans, IsPermutation-middle, list_any-IsPermutation, IsPermutation-filter, Table, Change, Put, Add, Remove, AllRows, SameRows, Cells, begins, key_in, same_table, is_in_part, makes, changed, after_change, after_changes, IsFresh, AreFresh, TransformsRows, TransformsFollow}
 use Rattle.row_model.proofs.Tables.{same_table_is, same_table_self}
-use Rattle.change_laws.specs.Laws.{TransformsFollow}
 use Rattle.change_laws.proofs.Same.{from_same}
 
 -- ---- rows in another order

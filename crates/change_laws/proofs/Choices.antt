@@ -1,27 +1,8 @@
 -- The rows of choices, in whatever order, give back what each student lists in each round: those of one list are known by their beginning,
 -- and they stand by their places.
 use Rattle.std.proofs.Common.{◌≡◌, ℕ, suc, ◌<◌, Bool, true, false, cond, List, [], ◌∷◌, ◌++◌, map, filter, Option, Some, None, refl, sym, ap, subst, ◌∙◌, append-nil, arith}
-use Rattle.std.specs.Prelude.{flat_map, IsPermutation}
-use Rattle.std.specs.Option.{option_map_or}
-use Rattle.std.specs.Cmp.{first_so, second_so, nat_cmp_is}
-use Rattle.std.specs.Ordering.{is_lt, ordering_then}
-use Rattle.std.specs.declared.cmp.Ordering.TheVariants.{Less, Equal}
-use Rattle.std.proofs.lemmas.Bool.{and_from}
+use Rattle.change_laws.proofs.Common.{flat_map, IsPermutation, option_map_or, first_so, second_so, nat_cmp_is, is_lt, ordering_then, Less, Equal, and_from, filter-append, filter_none, IsPermutation-flat_map, IsPermutation-filter, Text, Number, Cells, begins, RoundEntry, Listed, Key, same_key, find, is_below, rises, State, round_key, list_key, round_of, choices_in, choice_cells, choice_rows, list_rows, rows_of_round, is_equal, found_key, find_below, keys_exact, IsShaped}
 use Rattle.std.proofs.lemmas.List.{map-id}
-use Rattle.std.proofs.lemmas.List.Elements.{filter-append}
-use Rattle.sqlite_keyed.proofs.ListLemmas.{filter_none, IsPermutation-flat_map, IsPermutation-filter}
-use Rattle.row_model.specs.declared.cell.Cell.TheVariants.{Text, Number}
-use Rattle.row_model.specs.Rows.{Cells, begins}
-use Rattle.rolls.specs.declared.rounds.Round.{Round as RoundEntry}
-use Rattle.rolls.specs.declared.rounds.Listed.{Listed}
-use Rattle.rolls.specs.Roll.{Key, same_key, find, is_below, rises}
-use Rattle.rolls.specs.State.{State, round_key, list_key, round_of, choices_in}
-use Rattle.rolls.specs.Rows.{choice_cells, choice_rows, list_rows, rows_of_round}
-use Rattle.rolls.proofs.EntryChange.{is_equal}
-use Rattle.rolls.proofs.Found.{found_key}
-use Rattle.rolls.proofs.Places.{find_below}
-use Rattle.rolls.proofs.Same.{keys_exact}
-use Rattle.rolls.proofs.Shaped.{IsShaped}
 use Rattle.change_laws.proofs.Keyed.{filter_alike}
 use Rattle.change_laws.proofs.Found.{same_self, entries_same}
 use Rattle.change_laws.proofs.Lists.{head, own_begin, others_begin}

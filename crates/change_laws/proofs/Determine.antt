@@ -1,34 +1,11 @@
 -- The rows of an office determine it: those of one row each give back their entries, a round is what its row says with its lists, and a
 -- list is what its student lists, since it has choices.
 use Rattle.std.proofs.Common.{◌≡◌, ℕ, ◌≤◌, true, false, cond, List, [], ◌∷◌, map, length, Option, Some, None, refl, sym, ap, subst, ◌∙◌, arith, Bool}
-use Rattle.std.specs.Prelude.{◌==◌, ◌&&◌}
-use Rattle.std.specs.Ordering.{is_lt}
-use Rattle.std.specs.List.{AllByRecursion}
-use Rattle.std.specs.Option.{option_map_or}
-use Rattle.std.specs.Str.{bytes_eq}
-use Rattle.spa.specs.declared.aim.Aim.{Aim}
+use Rattle.change_laws.proofs.Common.{◌==◌, ◌&&◌, is_lt, AllByRecursion, option_map_or, bytes_eq, Aim, Text, Number, Bytes, Supervisor, Project, Student, Round, Import, RoundAim, Choice, Placement, Cells, SameRows, SupervisorEntry, ProjectEntry, StudentEntry, RoundEntry, Listed, PlacementEntry, AimEntry, ImportEntry, Key, key_cmp, find, is_below, rises, State, supervisor_key, project_key, student_key, round_key, list_key, aim_key, placement_key, import_key, lists_of, choices_in, is_generous, rows_in, supervisor_cells, project_cells, student_cells, round_cells, aim_cells, placement_cells, import_cells, found_key, holds_of_found, same_found, IsShaped, fit_shaped, RowsGiveOffice}
 use Rattle.spa.specs.declared.aim.Aim.TheVariants.{Greedy, Generous}
-use Rattle.row_model.specs.declared.cell.Cell.TheVariants.{Text, Number, Bytes}
-use Rattle.row_model.specs.declared.table.Table.TheVariants.{Supervisor, Project, Student, Round, Import, RoundAim, Choice, Placement}
-use Rattle.row_model.specs.Rows.{Cells, SameRows}
-use Rattle.rolls.specs.declared.entries.Supervisor.{Supervisor as SupervisorEntry}
-use Rattle.rolls.specs.declared.entries.Project.{Project as ProjectEntry}
-use Rattle.rolls.specs.declared.entries.Student.{Student as StudentEntry}
-use Rattle.rolls.specs.declared.rounds.Round.{Round as RoundEntry}
-use Rattle.rolls.specs.declared.rounds.Listed.{Listed}
-use Rattle.rolls.specs.declared.rounds.Placement.{Placement as PlacementEntry}
-use Rattle.rolls.specs.declared.rounds.RoundAim.{RoundAim as AimEntry}
-use Rattle.rolls.specs.declared.import.Import.{Import as ImportEntry}
 use Rattle.rolls.specs.declared.import.ImportKind.{ImportKind}
 use Rattle.rolls.specs.declared.import.ImportKind.TheVariants.{Supervisors, Projects, Students, Lists}
 use Rattle.rolls.specs.Kinds.{word_of}
-use Rattle.rolls.specs.Roll.{Key, key_cmp, find, is_below, rises}
-use Rattle.rolls.specs.State.{State, supervisor_key, project_key, student_key, round_key, list_key, aim_key, placement_key, import_key, lists_of, choices_in}
-use Rattle.rolls.specs.Rows.{is_generous, rows_in, supervisor_cells, project_cells, student_cells, round_cells, aim_cells, placement_cells, import_cells}
-use Rattle.rolls.proofs.Found.{found_key, holds_of_found}
-use Rattle.rolls.proofs.Same.{same_found}
-use Rattle.rolls.proofs.Shaped.{IsShaped, fit_shaped}
-use Rattle.change_laws.specs.Laws.{RowsGiveOffice}
 use Rattle.change_laws.proofs.Found.{StandsIn, each_found, entries_same, by_found}
 use Rattle.change_laws.proofs.Choices.{rows_give, rows_same, same_choices}
 

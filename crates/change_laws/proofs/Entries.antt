@@ -1,16 +1,7 @@
 -- Entries in the order of their keys: what is found after some are left out or one is put, and what is counted.
 use Rattle.std.proofs.Common.{◌≡◌, ℕ, zero, suc, ◌+◌, ◌≤◌, Bool, true, false, not, cond, List, [], ◌∷◌, Option, Some, None, is_some, slice_get, refl, sym, ap, subst, ◌∙◌, arith}
-use Rattle.std.specs.Prelude.{◌&&◌, nat_le, nat_lt, filter, count_by}
-use Rattle.std.specs.Option.{option_map_or}
-use Rattle.std.specs.Cmp.{first_so, second_so}
-use Rattle.std.specs.List.{AllByRecursion}
-use Rattle.std.proofs.lemmas.Bool.Decides.{nat_tests}
+use Rattle.change_laws.proofs.Common.{◌&&◌, nat_le, nat_lt, filter, count_by, option_map_or, first_so, second_so, AllByRecursion, nat_tests, option_filter, Key, key_cmp, same_key, find, has, put, is_below, rises, find-put, is_equal, find_below, keys_exact}
 use Rattle.std.proofs.lemmas.List.Sums.{sum_by-cons}
-use Rattle.std.proofs.lemmas.Map.Entries.{option_filter}
-use Rattle.rolls.specs.Roll.{Key, key_cmp, same_key, find, has, put, is_below, rises}
-use Rattle.rolls.proofs.EntryChange.{find-put, is_equal}
-use Rattle.rolls.proofs.Places.{find_below}
-use Rattle.rolls.proofs.Same.{keys_exact}
 
 -- ---- tests
 

@@ -1,19 +1,6 @@
 -- Entries in the order of their keys: each is found at its key, so they are one where they are the same in whatever order.
 use Rattle.std.proofs.Common.{◌≡◌, true, false, cond, List, [], ◌∷◌, Option, Some, None, refl, sym, ap, subst, ◌∙◌}
-use Rattle.std.specs.Prelude.{IsPermutation}
-use Rattle.std.specs.List.{AllByRecursion}
-use Rattle.std.specs.Cmp.{first_so, second_so}
-use Rattle.std.specs.Ordering.{is_eq, is_lt, ordering_reverse}
-use Rattle.std.specs.declared.cmp.Ordering.{Ordering}
-use Rattle.std.specs.declared.cmp.Ordering.TheVariants.{Less, Equal, Greater}
-use Rattle.std.proofs.lemmas.Bool.{false_from_ne_true}
-use Rattle.std.proofs.lemmas.List.Elements.{All-from_recursion, recursion_from_All}
-use Rattle.std.proofs.lemmas.List.Sorted.{IsPermutation-sym, All-permutation}
-use Rattle.rolls.specs.Roll.{Key, key_cmp, same_key, find, is_below, rises}
-use Rattle.rolls.proofs.EntryChange.{is_equal}
-use Rattle.rolls.proofs.Found.{found_key, holds_of_found}
-use Rattle.rolls.proofs.Places.{keys_total}
-use Rattle.rolls.proofs.Same.{keys_exact, same_found}
+use Rattle.change_laws.proofs.Common.{IsPermutation, AllByRecursion, first_so, second_so, is_eq, is_lt, ordering_reverse, Ordering, Less, Equal, Greater, false_from_ne_true, All-from_recursion, recursion_from_All, IsPermutation-sym, All-permutation, Key, key_cmp, same_key, find, is_below, rises, is_equal, found_key, holds_of_found, keys_total, keys_exact, same_found}
 
 -- no order is its own converse but that of equals
 own_order : (r : Ordering) → r ≡ ordering_reverse r → r ≡ Equal

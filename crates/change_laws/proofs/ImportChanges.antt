@@ -1,10 +1,7 @@
 -- Plain requests keep no import.
 use Rattle.std.proofs.Common.{◌≡◌, [], ◌∷◌, refl, ◌∙◌}
 use Rattle.rolls.specs.declared.request.Plain.{Plain}
-use Rattle.rolls.specs.declared.request.Plain.TheVariants.{PutSupervisor}
-use Rattle.rolls.specs.State.{State}
-use Rattle.rolls.specs.Stepping.{after_plain}
-use Rattle.change_laws.specs.Laws.{ImportsStay}
+use Rattle.change_laws.proofs.Common.{PutSupervisor, State, after_plain, ImportsStay}
 
 one_keeps_none : (p : Plain) (o : State) → (let n = after_plain p o in n.imports) ≡ o.imports
 one_keeps_none (PutSupervisor code label quota) o = refl

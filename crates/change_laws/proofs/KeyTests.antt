@@ -1,11 +1,6 @@
 -- Cells are the same where the keys that they give are.
 use Rattle.std.proofs.Common.{◌≡◌, ℕ, Bool, true, false, List, [], inl, inr, refl, sym, ◌∙◌}
-use Rattle.std.specs.Prelude.{◌&&◌, ◌==◌}
-use Rattle.std.specs.Str.{bytes_eq}
-use Rattle.std.proofs.lemmas.Bool.{cases_eq, eqb-true, eq-eqb, false_from_ne_true}
-use Rattle.rolls.specs.Roll.{same_key}
-use Rattle.rolls.proofs.EntryChange.{same_code}
-use Rattle.rolls.proofs.LastRound.{same_round, other_round}
+use Rattle.change_laws.proofs.Common.{◌&&◌, ◌==◌, bytes_eq, cases_eq, eqb-true, eq-eqb, false_from_ne_true, same_key, same_code, same_round, other_round}
 
 -- a test and nothing more
 pub and_true : (b : Bool) → (b && true) ≡ b

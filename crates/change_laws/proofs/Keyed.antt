@@ -1,24 +1,8 @@
 -- Entries in the order of their keys, and their rows: an entry that is put stands next to the others, in whatever order, and a test that
 -- finds the rows of one key alone leaves those of the others.
 use Rattle.std.proofs.Common.{ℕ, zero, suc, take, length, drop, ◌≡◌, Bool, true, false, not, cond, List, [], ◌∷◌, ◌++◌, map, filter, Some, is_some, refl, sym, ap, subst, ◌∙◌}
-use Rattle.std.specs.Prelude.{flat_map, IsPermutation, ◌&&◌}
-use Rattle.std.specs.List.{AllByRecursion, list_any}
-use Rattle.std.specs.Cmp.{first_so, second_so}
-use Rattle.std.specs.Ordering.{is_eq}
-use Rattle.std.specs.declared.cmp.Ordering.{Ordering}
-use Rattle.std.specs.declared.cmp.Ordering.TheVariants.{Less, Equal, Greater}
-use Rattle.std.proofs.lemmas.Bool.{and_from, eq-eqb}
-use Rattle.std.proofs.lemmas.List.Elements.{filter-append, filter_passes, recursion_from_All}
-use Rattle.std.proofs.lemmas.List.Sorted.{IsPermutation-refl, IsPermutation-sym, IsPermutation-trans, IsPermutation-cons, IsPermutation-middle, IsPermutation-append_right}
-use Rattle.sqlite_keyed.proofs.ListLemmas.{IsPermutation-same, filter_all, filter_none, all_weaker, any_from_none}
+use Rattle.change_laws.proofs.Common.{flat_map, IsPermutation, ◌&&◌, AllByRecursion, list_any, first_so, second_so, is_eq, Ordering, Less, Equal, Greater, and_from, eq-eqb, filter-append, filter_passes, recursion_from_All, IsPermutation-refl, IsPermutation-sym, IsPermutation-trans, IsPermutation-cons, IsPermutation-middle, IsPermutation-append_right, IsPermutation-same, filter_all, filter_none, all_weaker, any_from_none, Text, Number, Bytes, Cells, begins, same_cell, Key, key_cmp, same_key, by_order, find, has, put, put_all, take_out, is_below, rises, find-put, is_equal, below_all, find_below, rises-put, bytes_self, keys_exact}
 use Rattle.row_model.specs.declared.cell.Cell.{Cell}
-use Rattle.row_model.specs.declared.cell.Cell.TheVariants.{Text, Number, Bytes}
-use Rattle.row_model.specs.Rows.{Cells, begins, same_cell}
-use Rattle.rolls.specs.Roll.{Key, key_cmp, same_key, by_order, find, has, put, put_all, take_out, is_below, rises}
-use Rattle.rolls.proofs.EntryChange.{find-put, is_equal}
-use Rattle.rolls.proofs.Places.{below_all, find_below, rises-put}
-use Rattle.rolls.proofs.EntryChange.{bytes_self}
-use Rattle.rolls.proofs.Same.{keys_exact}
 
 module _ {E : Type 0} (key : E → Key) where
   -- an entry stays unless it has the key

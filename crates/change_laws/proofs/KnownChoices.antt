@@ -1,16 +1,9 @@
 -- A list that gets no refusal: its projects are known, and none stands twice. Each test looks for a choice among those before
 -- it, and `is_distinct` for each choice among those after it.
 use Rattle.std.proofs.Common.{◌≡◌, ℕ, Bool, true, false, not, List, [], ◌∷◌, ◌++◌, refl, ap, subst, ◌∙◌}
-use Rattle.std.specs.Prelude.{◌||◌}
-use Rattle.std.specs.List.{AllByRecursion, list_any}
-use Rattle.std.specs.Str.{bytes_eq}
-use Rattle.std.proofs.lemmas.Bool.{and_from, false_from_ne_true, or_left, or_right}
+use Rattle.change_laws.proofs.Common.{◌||◌, AllByRecursion, list_any, bytes_eq, and_from, false_from_ne_true, or_left, or_right, bytes_eq-Decides, State, has_project, is_distinct, choice_tests}
 use Rattle.std.proofs.lemmas.List.Folds.{list_any-append}
-use Rattle.std.proofs.lemmas.Slice.Eq.{bytes_eq-Decides}
 use Rattle.rolls.specs.declared.refusal.Refusal.{Refusal}
-use Rattle.rolls.specs.State.{State, has_project}
-use Rattle.rolls.specs.Fit.{is_distinct}
-use Rattle.rolls.specs.Refusing.{choice_tests}
 use Rattle.change_laws.proofs.Entries.{not_false}
 
 -- none of the tests is met

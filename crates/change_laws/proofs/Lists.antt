@@ -2,29 +2,7 @@
 -- of the new choices, are what the round has then. The office is looked at as that round next to the others, and the round as that list
 -- next to the others.
 use Rattle.std.proofs.Common.{◌≡◌, ℕ, suc, ◌≤◌, Bool, true, false, not, cond, drop, List, [], ◌∷◌, ◌++◌, map, filter, Option, Some, is_some, refl, sym, ap, subst, ◌∙◌, arith, true≢false, append_assoc}
-use Rattle.std.specs.Prelude.{flat_map, IsPermutation, ◌&&◌, ◌||◌, ◌==◌}
-use Rattle.std.specs.List.{list_any, AllByRecursion}
-use Rattle.std.specs.Option.{option_map_or}
-use Rattle.std.specs.Str.{bytes_eq}
-use Rattle.std.proofs.lemmas.Bool.{eqb-true, eq-eqb, false_from_ne_true}
-use Rattle.std.proofs.lemmas.List.Elements.{filter-append}
-use Rattle.std.proofs.lemmas.List.Sorted.{IsPermutation-refl, IsPermutation-sym, IsPermutation-trans, IsPermutation-map, IsPermutation-append_left, IsPermutation-append_right, list_any-IsPermutation}
-use Rattle.sqlite_keyed.proofs.ListLemmas.{all-flat_map, all_of, filter_all, IsPermutation-flat_map, IsPermutation-filter, all_weaker, none_from_any, any_from_none}
-use Rattle.row_model.specs.declared.cell.Cell.TheVariants.{Text, Number}
-use Rattle.row_model.specs.declared.table.Table.TheVariants.{Round, Choice}
-use Rattle.row_model.specs.declared.row.Change.TheVariants.{Remove}
-use Rattle.row_model.specs.declared.row.Change.{Change}
-use Rattle.row_model.specs.Rows.{AllRows, Cells, begins}
-use Rattle.row_model.specs.Changes.{after_change, TransformsRows}
-use Rattle.rolls.specs.declared.rounds.Round.{Round as RoundEntry}
-use Rattle.rolls.specs.declared.rounds.Listed.{Listed}
-use Rattle.rolls.specs.Roll.{same_key, find, take_out, put, rises}
-use Rattle.rolls.specs.State.{State, round_key, list_key, last_round, round_of, has_list, is_open}
-use Rattle.rolls.specs.Fit.{IsFit}
-use Rattle.rolls.specs.Stepping.{with_last}
-use Rattle.rolls.specs.Making.{list_part, list_changes, choices_added}
-use Rattle.rolls.specs.Rows.{choice_cells, choice_rows, list_rows, rows_of_round, rows_in, round_cells, Transforms}
-use Rattle.rolls.proofs.LastRound.{has_reading}
+use Rattle.change_laws.proofs.Common.{flat_map, IsPermutation, ◌&&◌, ◌||◌, ◌==◌, list_any, AllByRecursion, option_map_or, bytes_eq, eqb-true, eq-eqb, false_from_ne_true, filter-append, IsPermutation-refl, IsPermutation-sym, IsPermutation-trans, IsPermutation-map, IsPermutation-append_left, IsPermutation-append_right, list_any-IsPermutation, all-flat_map, all_of, filter_all, IsPermutation-flat_map, IsPermutation-filter, all_weaker, none_from_any, any_from_none, Text, Number, Round, Choice, Remove, Change, AllRows, Cells, begins, after_change, TransformsRows, RoundEntry, Listed, same_key, find, take_out, put, rises, State, round_key, list_key, last_round, round_of, has_list, is_open, IsFit, with_last, list_part, list_changes, choices_added, choice_cells, choice_rows, list_rows, rows_of_round, rows_in, round_cells, Transforms, has_reading}
 use Rattle.change_laws.proofs.KeyTests.{and_true, number_test, code_test}
 use Rattle.change_laws.proofs.Keyed.{none_taken, rows_left, rows_stay, filter_alike, none_left, begins_both}
 use Rattle.change_laws.proofs.Changes.{SameElsewhere, AreFree, add, added_transforms, change_elsewhere}

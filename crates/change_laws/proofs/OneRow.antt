@@ -1,29 +1,6 @@
 -- A put of an entry that has one row: the row goes in the place of the one with its key, or is added where none has it.
 use Rattle.std.proofs.Common.{◌≡◌, Bool, true, false, cond, List, [], ◌∷◌, map, Some, is_some, refl, sym, ap, subst, ◌∙◌}
-use Rattle.std.specs.Prelude.{◌||◌}
-use Rattle.std.specs.List.{list_any}
-use Rattle.std.specs.Cmp.{first_so, second_so}
-use Rattle.std.specs.Ordering.{is_eq}
-use Rattle.std.specs.declared.cmp.Ordering.{Ordering}
-use Rattle.std.specs.declared.cmp.Ordering.TheVariants.{Less, Equal, Greater}
-use Rattle.std.proofs.lemmas.List.Sorted.{IsPermutation-refl, IsPermutation-map}
-use Rattle.sqlite_keyed.proofs.ListLemmas.{IsPermutation-same}
-use Rattle.row_model.specs.declared.table.Table.{Table}
-use Rattle.row_model.specs.declared.table.Table.TheVariants.{Supervisor, Project, Student, Import}
-use Rattle.row_model.specs.declared.row.Change.TheVariants.{Put, Add}
-use Rattle.row_model.specs.Rows.{AllRows, Cells, RowOf, begins, key_in}
-use Rattle.row_model.specs.Changes.{TransformsRows}
-use Rattle.rolls.specs.declared.entries.Supervisor.{Supervisor as SupervisorEntry}
-use Rattle.rolls.specs.declared.entries.Project.{Project as ProjectEntry}
-use Rattle.rolls.specs.declared.entries.Student.{Student as StudentEntry}
-use Rattle.rolls.specs.declared.import.Import.{Import as ImportEntry}
-use Rattle.rolls.specs.Roll.{Key, key_cmp, same_key, by_order, find, has, put, is_below, rises}
-use Rattle.rolls.specs.Rows.{rows_in, supervisor_cells, project_cells, student_cells, import_cells, Transforms}
-use Rattle.rolls.specs.State.{State, supervisor_key, project_key, student_key, import_key, has_supervisor, has_project, has_student, has_import}
-use Rattle.rolls.specs.Importing.{with_import}
-use Rattle.rolls.specs.Making.{put_or_added}
-use Rattle.rolls.proofs.Places.{below_all, find_below}
-use Rattle.rolls.proofs.Same.{keys_exact}
+use Rattle.change_laws.proofs.Common.{◌||◌, list_any, first_so, second_so, is_eq, Ordering, Less, Equal, Greater, IsPermutation-refl, IsPermutation-map, IsPermutation-same, Table, Supervisor, Project, Student, Import, Put, Add, AllRows, Cells, RowOf, begins, key_in, TransformsRows, SupervisorEntry, ProjectEntry, StudentEntry, ImportEntry, Key, key_cmp, same_key, by_order, find, has, put, is_below, rises, rows_in, supervisor_cells, project_cells, student_cells, import_cells, Transforms, State, supervisor_key, project_key, student_key, import_key, has_supervisor, has_project, has_student, has_import, with_import, put_or_added, below_all, find_below, keys_exact}
 use Rattle.change_laws.proofs.FitAfterPut.{with_supervisor, with_project, with_student}
 use Rattle.change_laws.proofs.KeyTests.{code_test}
 use Rattle.change_laws.proofs.Keyed.{AreNew, added_beside}

@@ -1,20 +1,7 @@
 -- The changes of each plain request transform the rows of the office into those of the office after it.
 use Rattle.std.proofs.Common.{◌≡◌, ℕ, true, List, [], None, arith}
-use Rattle.std.proofs.lemmas.Bool.{eqb-false}
-use Rattle.std.proofs.lemmas.List.Sorted.{IsPermutation-refl}
-use Rattle.sqlite_keyed.proofs.ListLemmas.{IsPermutation-flat_map}
-use Rattle.rolls.specs.declared.rounds.Listed.{Listed}
-use Rattle.rolls.specs.declared.request.Plain.TheVariants.{PutSupervisor, PutProject, PutStudent, OpenRound, PutList, DropList, ReopenRound}
-use Rattle.rolls.specs.Roll.{put, take_out}
-use Rattle.rolls.specs.State.{State, list_key, has_list, last_round}
-use Rattle.rolls.specs.Fit.{IsFit}
-use Rattle.rolls.specs.Refusing.{plain_refusal, list_tests, drop_tests, reopening_tests}
-use Rattle.rolls.specs.Stepping.{after_plain}
-use Rattle.rolls.specs.Making.{changes_of}
-use Rattle.rolls.specs.Rows.{list_rows, rows_in, Transforms}
-use Rattle.rolls.proofs.NoRefusal.{allowed}
+use Rattle.change_laws.proofs.Common.{eqb-false, IsPermutation-refl, IsPermutation-flat_map, Listed, PutSupervisor, PutProject, PutStudent, OpenRound, PutList, DropList, ReopenRound, put, take_out, State, list_key, has_list, last_round, IsFit, plain_refusal, list_tests, drop_tests, reopening_tests, after_plain, changes_of, list_rows, rows_in, Transforms, allowed, ChangesTransform}
 use Rattle.change_laws.proofs.Entries.{not_false}
-use Rattle.change_laws.specs.Laws.{ChangesTransform}
 use Rattle.change_laws.proofs.Keyed.{put_beside}
 use Rattle.change_laws.proofs.Changes.{nothing_transforms}
 use Rattle.change_laws.proofs.OneRow.{transforms_supervisor, transforms_project, transforms_student}

@@ -1,27 +1,7 @@
 -- The next round opens, or the last one opens again or closes: its row comes or is put in its place, its lists keep their rows, and
 -- placements go.
 use Rattle.std.proofs.Common.{◌≡◌, ℕ, ◌+◌, ◌≤◌, Bool, true, false, not, List, [], ◌∷◌, map, Option, Some, is_some, refl, sym, ap, subst, ◌∙◌, arith}
-use Rattle.std.specs.Prelude.{flat_map, IsPermutation, ◌&&◌, ◌==◌}
-use Rattle.std.specs.Option.{option_map_or}
-use Rattle.std.proofs.lemmas.Bool.Decides.{nat_tests}
-use Rattle.std.proofs.lemmas.List.Sorted.{IsPermutation-refl, IsPermutation-sym, IsPermutation-trans}
-use Rattle.sqlite_keyed.proofs.ListLemmas.{IsPermutation-same, IsPermutation-flat_map, filter-map, filter_same}
-use Rattle.spa.specs.declared.aim.Aim.{Aim}
-use Rattle.row_model.specs.declared.table.Table.TheVariants.{Round, RoundAim, Choice, Placement}
-use Rattle.row_model.specs.declared.row.Change.TheVariants.{Put, Add, Remove}
-use Rattle.row_model.specs.declared.row.Change.{Change}
-use Rattle.row_model.specs.Changes.{TransformsRows}
-use Rattle.rolls.specs.declared.rounds.Round.{Round as RoundEntry}
-use Rattle.rolls.specs.declared.rounds.RoundAim.{RoundAim as AimEntry}
-use Rattle.rolls.specs.declared.rounds.Placement.{Placement as PlacementEntry}
-use Rattle.rolls.specs.Roll.{find, put, take_out}
-use Rattle.rolls.specs.State.{State, round_key, aim_key, last_round, round_of}
-use Rattle.rolls.specs.Fit.{IsFit}
-use Rattle.rolls.specs.Stepping.{with_last, after_opening, after_reopening}
-use Rattle.rolls.specs.Making.{round_row, placed_part, opening_changes, reopening_changes}
-use Rattle.rolls.specs.Rows.{aim_cells, round_cells, placement_cells, rows_of_round, rows_in, Transforms}
-use Rattle.rolls.proofs.LastRound.{aimed_found, no_round_above, some_round, round_number, rounds_rise}
-use Rattle.rolls.proofs.Shaped.{fit_shaped}
+use Rattle.change_laws.proofs.Common.{flat_map, IsPermutation, ◌&&◌, ◌==◌, option_map_or, nat_tests, IsPermutation-refl, IsPermutation-sym, IsPermutation-trans, IsPermutation-same, IsPermutation-flat_map, filter-map, filter_same, Aim, Round, RoundAim, Choice, Placement, Put, Add, Remove, Change, TransformsRows, RoundEntry, AimEntry, PlacementEntry, find, put, take_out, State, round_key, aim_key, last_round, round_of, IsFit, with_last, after_opening, after_reopening, round_row, placed_part, opening_changes, reopening_changes, aim_cells, round_cells, placement_cells, rows_of_round, rows_in, Transforms, aimed_found, no_round_above, some_round, round_number, rounds_rise, fit_shaped}
 use Rattle.change_laws.proofs.KeyTests.{and_true, number_test}
 use Rattle.change_laws.proofs.Keyed.{put_beside, found_beside, added_beside}
 use Rattle.change_laws.proofs.Changes.{SameElsewhere, one_transforms, transforms_follow}

@@ -1,23 +1,10 @@
 -- A fit office stays fit when a round is opened, a list is put or dropped, and the last round is opened again. An open round has
 -- placed nobody, so no placement looks at a list that changes; a reopening leaves the placements of earlier rounds.
 use Rattle.std.proofs.Common.{◌+◌, ◌≡◌, ℕ, ◌-◌, ◌<◌, inl, inr, Bool, true, false, not, cond, List, [], Option, Some, None, slice_get, refl, sym, ap, subst, ◌∙◌, arith}
-use Rattle.std.specs.Prelude.{◌==◌, nat_lt}
-use Rattle.std.specs.Option.{option_map_or}
-use Rattle.std.specs.List.{AllByRecursion}
-use Rattle.std.proofs.lemmas.Bool.{cases_eq, eq-eqb}
-use Rattle.std.proofs.lemmas.Map.Entries.{option_filter}
-use Rattle.rolls.specs.declared.TheConstants.{MAX_ROUNDS}
-use Rattle.spa.specs.declared.aim.Aim.{Aim}
+use Rattle.change_laws.proofs.Common.{◌==◌, nat_lt, option_map_or, AllByRecursion, cases_eq, eq-eqb, option_filter, MAX_ROUNDS, Aim, Listed, rises, State, list_key, placement_key, placement_of, lists_of, round_of, last_round, is_open, is_closed, IsFit, ListFits, PlacementFits, with_last, after_opening, after_reopening, rises-filter, closed_before, last_kept, numbered_kept, last_open_kept, other_kept, reading_kept, reading_changed, aimed_kept, aimed_put, next, last_after_opening, numbered_after_opening, last_open_after_opening, reading_after_opening, other_after_opening, closed_within, same_lists, has_reading}
 use Rattle.rolls.specs.declared.rounds.Round.{Round}
-use Rattle.rolls.specs.declared.rounds.Listed.{Listed}
 use Rattle.rolls.specs.declared.rounds.Placement.{Placement}
-use Rattle.rolls.specs.Roll.{rises}
-use Rattle.rolls.specs.State.{State, list_key, placement_key, placement_of, lists_of, round_of, last_round, is_open, is_closed}
-use Rattle.rolls.specs.Fit.{IsFit, ListFits, PlacementFits}
-use Rattle.rolls.specs.Stepping.{with_last, after_opening, after_reopening}
-use Rattle.rolls.proofs.Places.{rises-filter}
 use Rattle.rolls.proofs.EntryChange.{all_weaker}
-use Rattle.rolls.proofs.LastRound.{closed_before, last_kept, numbered_kept, last_open_kept, other_kept, reading_kept, reading_changed, aimed_kept, aimed_put, next, last_after_opening, numbered_after_opening, last_open_after_opening, reading_after_opening, other_after_opening, closed_within, same_lists, has_reading}
 use Rattle.change_laws.proofs.Entries.{all_kept, count_kept, find-filter}
 use Rattle.change_laws.proofs.FitAfterPut.{fit_with_rounds}
 

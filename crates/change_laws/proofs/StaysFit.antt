@@ -1,24 +1,7 @@
 -- A fit office is fit after each plain request that it does not refuse.
 use Rattle.std.proofs.Common.{◌≡◌, ℕ, true, false, not, List, [], length, Option, Some, None, is_some, refl}
-use Rattle.std.specs.Prelude.{◌&&◌, nat_le, nat_lt}
-use Rattle.std.specs.Option.{option_map_or}
-use Rattle.std.specs.Cmp.{first_so, second_so}
-use Rattle.std.proofs.lemmas.Bool.{leb-true, leb-false}
-use Rattle.spa.specs.declared.TheConstants.{RANKS}
-use Rattle.rolls.specs.declared.TheConstants.{MAX_ROUNDS}
-use Rattle.rolls.specs.declared.rounds.Listed.{Listed}
+use Rattle.change_laws.proofs.Common.{◌&&◌, nat_le, nat_lt, option_map_or, first_so, second_so, leb-true, leb-false, RANKS, MAX_ROUNDS, Listed, put, take_out, same_key, Aim, State, list_key, lists_of, placement_of, last_round, IsFit, ListFits, PutSupervisor, PutProject, PutStudent, OpenRound, PutList, DropList, ReopenRound, plain_refusal, supervisor_tests, project_tests, student_tests, opening_tests, list_tests, drop_tests, after_plain, allowed, rises-put, rises-filter, all-put, StaysFit}
 use Rattle.rolls.specs.declared.rounds.Placement.{Placement}
-use Rattle.rolls.specs.Roll.{put, take_out, same_key}
-use Rattle.spa.specs.declared.aim.Aim.{Aim}
-use Rattle.rolls.specs.State.{State, list_key, lists_of, placement_of, last_round}
-use Rattle.rolls.specs.Fit.{IsFit, ListFits}
-use Rattle.rolls.specs.declared.request.Plain.TheVariants.{PutSupervisor, PutProject, PutStudent, OpenRound, PutList, DropList, ReopenRound}
-use Rattle.rolls.specs.Refusing.{plain_refusal, supervisor_tests, project_tests, student_tests, opening_tests, list_tests, drop_tests}
-use Rattle.rolls.specs.Stepping.{after_plain}
-use Rattle.rolls.proofs.NoRefusal.{allowed}
-use Rattle.rolls.proofs.Places.{rises-put, rises-filter}
-use Rattle.rolls.proofs.EntryChange.{all-put}
-use Rattle.change_laws.specs.Laws.{StaysFit}
 use Rattle.change_laws.proofs.Entries.{not_false, not_above, all_kept}
 use Rattle.change_laws.proofs.KnownChoices.{choices_known, choices_distinct}
 use Rattle.change_laws.proofs.FitAfterPut.{fit_with_supervisor, fit_with_project, fit_with_student}

@@ -1,15 +1,10 @@
 -- What is printed of an import is an outcome of its line.
 use Rattle.std.proofs.Common.{◌≡◌, inl, inr, ℕ, List, Result, Ok, Err, IfOk, IfErr, MatchResult, Vec, ap, ◌∙◌, sym, subst}
-use Rattle.std.specs.declared.alloc.Global.{Global}
+use Rattle.cli.proofs.Common.{Global, Refusal, Request, Found, IsReadOf, IsImportLine, ImportsFile, IsUnreadFile, MayDoAt, Outcome, refused, IsImportOf, IsImportOfFile, IsUnreadOf}
 use Rattle.rolls.specs.declared.import.ImportKind.{ImportKind}
-use Rattle.rolls.specs.declared.refusal.Refusal.{Refusal}
-use Rattle.rolls.specs.declared.request.Request.{Request}
 use Rattle.cli.specs.declared.tasks.Task.TheVariants as task
 use Rattle.rolls.specs.declared.TheConstants.{MAX_IMPORT_BYTES}
-use Rattle.world.specs.WorldState.{Found, IsReadOf}
 use Rattle.cli.proofs.Writers.{unread}
-use Rattle.cli.specs.Outcomes.{IsImportLine, ImportsFile, IsUnreadFile, MayDoAt, Outcome, refused}
-use Rattle.cli.specs.Imports.{IsImportOf, IsImportOfFile, IsUnreadOf}
 
 -- the request of what was read of a file
 pub of_read : (holds : Found → Type 0) (id : List ℕ) (kind : ImportKind) (read : Result (Vec ℕ Global) Refusal) (made : Result Request Refusal)

@@ -1,3 +1,4 @@
+mod Common
 mod Anew
 mod Imports
 mod Opened

@@ -1,31 +1,18 @@
 -- What was done at a file is an outcome of the task, of the line, and of the words.
 use Rattle.std.proofs.Common.{◌≡◌, ◌⊎◌, inl, inr, ℕ, List, string_bytes, Some, None, Result, Ok, Err, MatchResult, String, refl, sym, subst}
-use Rattle.std.specs.Prelude.{⊤}
+use Rattle.cli.proofs.Common.{⊤, WorldState, Trouble, Global, over_files, Refusal, Request, LineFault, IsAnswer, Task, Both, ComesTo, ImportsFile, IsUnreadFile, MayCome, MayDo, MayDoAt, OfDatabase, OnFile, Outcome, Prints, refused, AskedAt, Came, CommandAt, DoneAt, IsRefusalOf, IsUnfound, LineAt, WordsAt, Status}
 use Rattle.sqlite_disk.specs.declared.Disk.{Ghosts}
-use Rattle.world.specs.WorldState.{WorldState}
 use Rattle.sqlite.specs.declared.error.Error.{Error}
 use Rattle.sqlite.specs.declared.error.Error.TheVariants.{SqliteFailure}
 use Rattle.sqlite.specs.declared.error.ErrorCode.TheVariants.{OutOfMemory}
 use Rattle.round_files.specs.Rounds.{IsSolved, IsChecked}
-use Rattle.round_files.specs.declared.rounds.Trouble.{Trouble}
-use Rattle.std.specs.declared.alloc.Global.{Global}
 use Rattle.rolls.specs.declared.refusal.Refusal.TheVariants as no
-use Rattle.sqlite.specs.Files.{over_files}
-use Rattle.rolls.specs.declared.refusal.Refusal.{Refusal}
-use Rattle.rolls.specs.declared.request.Request.{Request}
 use Rattle.commands.specs.declared.line.Line.{Line}
 use Rattle.commands.specs.declared.line.Line.TheVariants as line
-use Rattle.commands.specs.declared.line.LineFault.{LineFault}
-use Rattle.commands.specs.Reading.{IsAnswer}
-use Rattle.cli.specs.declared.tasks.Task.{Task}
 use Rattle.cli.specs.declared.tasks.Task.TheVariants as task
-use Rattle.cli.specs.Outputs.{Both}
-use Rattle.cli.specs.Outcomes.{ComesTo, ImportsFile, IsUnreadFile, MayCome, MayDo, MayDoAt, OfDatabase, OnFile, Outcome, Prints, refused}
-use Rattle.cli.specs.Databases.{AskedAt, Came, CommandAt, DoneAt, IsRefusalOf, IsUnfound, LineAt, WordsAt}
 use Rattle.cli.proofs.Imports.{imports_file}
 use Rattle.cli.proofs.Opened.{may_do}
 use Rattle.cli.proofs.Writers.{of_any, prints_more, unread}
-use Rattle.cli.specs.declared.status.Status.{Status}
 
 -- the refusal of a file that cannot be opened
 refused_open : (error : Error) (r : Refusal) → IsRefusalOf error r → (r ≡ no.Memory) ⊎ (r ≡ no.Storage)

@@ -1,37 +1,20 @@
 -- What comes of a task where its office was opened or the opening refused, and what is left.
 use Rattle.std.proofs.Common.{◌≡◌, ◌⊎◌, inl, inr, ℕ, false, List, Result, sym, subst, ap, ◌∙◌}
-use Rattle.sqlite.specs.Effect.{Database}
+use Rattle.cli.proofs.Common.{Database, IsOpened, file_state, Held, state, Refusal, State, HasNone, Opens, DeskState, IsPeer, Peer, PortState, Within, some_port, Served, StreamFault, MessageText, Connect, AnswersFrom, AnswersOffice, office_seen, Task, ComesOf, IsUnopened, MayDo, Outcome, refused, ComesFrom, DoesOver, IsDone, IsFoundFor, IsOfficeIn, IsOfficeOf, IsWhyUnopened, LeftBy, TakesTo, PrintsOver, WasClean, Status}
 use Rattle.sqlite.specs.State.{State as Seen, HasCleanDisk}
-use Rattle.sqlite.specs.Files.{IsOpened, file_state}
 use Rattle.sqlite.specs.Start.{FindsIn}
 use Rattle.sqlite_wal.specs.Recovery.{Image}
 use Rattle.sqlite_disk.specs.declared.Disk as disk
 use Rattle.sqlite_store.specs.declared.store.FileStore.{FileStore}
-use Rattle.sqlite.specs.Held.{Held, state}
 use Rattle.sqlite_trees.specs.declared.store.Store.{Ghosts}
-use Rattle.rolls.specs.declared.refusal.Refusal.{Refusal}
 use Rattle.rolls.specs.declared.refusal.Refusal.TheVariants as no
-use Rattle.rolls.specs.State.{State}
 use Rattle.tables.specs.Causes.{IsStopped}
 use Rattle.store.specs.Causes.{IsHinderedOpening}
 use Rattle.store.specs.Reading.{IsDamaged}
 use Rattle.store.specs.Editions.{latest}
 use Rattle.store.proofs.Standing.{in_latest}
-use Rattle.store.specs.Tables.{HasNone, Opens}
-use Rattle.desk.specs.DeskState.{DeskState}
-use Rattle.world.specs.WorldState.{IsPeer, Peer, PortState, Within, some_port}
-use Rattle.wire.specs.declared.outcome.Served.{Served}
-use Rattle.wire.specs.declared.outcome.StreamFault.{StreamFault}
-use Rattle.wire.specs.Run.{MessageText}
-use Rattle.web.specs.Connections.{Connect}
-use Rattle.web.specs.Serving.{AnswersFrom, AnswersOffice}
 use Rattle.web.proofs.OneConnection.{connect_seen, connect_back}
-use Rattle.web.proofs.OneMessage.{office_seen}
-use Rattle.cli.specs.declared.tasks.Task.{Task}
 use Rattle.cli.specs.declared.tasks.Task.TheVariants as task
-use Rattle.cli.specs.Outcomes.{ComesOf, IsUnopened, MayDo, Outcome, refused}
-use Rattle.cli.specs.Databases.{ComesFrom, DoesOver, IsDone, IsFoundFor, IsOfficeIn, IsOfficeOf, IsWhyUnopened, LeftBy, TakesTo, PrintsOver, WasClean}
-use Rattle.cli.specs.declared.status.Status.{Status}
 
 -- what was opened is the office of the database before
 of_opened : (old new : Database) (office : State) → Opens old new office → IsOfficeOf old office

@@ -1,24 +1,12 @@
 -- What is printed is printed of more, and what one of the two writers took is printed.
 use Rattle.std.proofs.Common.{◌≡◌, ◌⊎◌, inl, inr, ℕ, ◌+◌, List, ◌++◌, Option, Result, Ok, Err, IfOk, IfErr, MatchResult, Vec, String, refl, ap, ◌∙◌, sym, subst, arith}
-use Rattle.std.specs.Prelude.{⊤}
-use Rattle.std.specs.Io.KnownBytes.{Appends}
-use Rattle.std.specs.declared.alloc.Global.{Global}
+use Rattle.cli.proofs.Common.{⊤, Appends, Global, Refusal, Found, IsReadOf, Peer, AllServed, lines_after, MessageText, Trouble, IsUnreadOf, Both, HasPrinted, Output, both_failures, OfDatabase, OnFile, Outcome, Prints, behind, of_round, prints, refused, refusal_line, named_line, new_database, listening, IsUnreadFile, IsServed, Status, Success, Failure}
 use Rattle.wire.proofs.Known.{appends_compose, appends_none}
-use Rattle.rolls.specs.declared.refusal.Refusal.{Refusal}
 use Rattle.rolls.specs.declared.refusal.Refusal.TheVariants as no
 use Rattle.rolls.specs.RefusalInfo.{number_of, name_of}
 use Rattle.intake.specs.declared.TheConstants.{MAX_BYTES}
-use Rattle.world.specs.WorldState.{Found, IsReadOf, Peer}
-use Rattle.web.specs.Connections.{AllServed, lines_after}
-use Rattle.wire.specs.Run.{MessageText}
-use Rattle.round_files.specs.declared.rounds.Trouble.{Trouble}
 use Rattle.round_files.specs.declared.rounds.Trouble.TheVariants.{Refused}
-use Rattle.cli.specs.Imports.{IsUnreadOf}
-use Rattle.cli.specs.Outputs.{Both, HasPrinted, Output, both_failures}
-use Rattle.cli.specs.Outcomes.{OfDatabase, OnFile, Outcome, Prints, behind, of_round, prints, refused, refusal_line, named_line, new_database, listening, IsUnreadFile, IsServed}
 use Rattle.cli.specs.Inside.Outcomes.{Serves}
-use Rattle.cli.specs.declared.status.Status.{Status}
-use Rattle.cli.specs.declared.status.Status.TheVariants.{Success, Failure}
 
 -- what the two writers took, and how many of their calls failed
 pub record Took : Type 0 where

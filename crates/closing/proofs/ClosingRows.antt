@@ -1,27 +1,16 @@
 -- A round that closes: its row is put, and the rows of placements come, of students who have none.
 use Rattle.std.proofs.Common.{false, List, [], ◌∷◌, ◌++◌, map, sym, subst}
-use Rattle.std.specs.Prelude.{IsPermutation}
-use Rattle.std.proofs.lemmas.List.{map-append}
+use Rattle.closing.proofs.Common.{IsPermutation, map-append, PlacementEntry, put_all, placement_cells, rows_in, State, placement_key, last_round, with_last, kept, after_close, open_within, all_beside, placement_added, ClosingTransforms}
 use Rattle.std.proofs.lemmas.List.Sorted.{IsPermutation-refl, IsPermutation-map}
 use Rattle.sqlite_keyed.proofs.ListLemmas.{map-map}
 use Rattle.row_model.specs.declared.row.Change.TheVariants.{Put}
 use Rattle.row_model.specs.declared.table.Table.TheVariants.{Placement}
 use Rattle.row_model.specs.Changes.{TransformsRows}
-use Rattle.rolls.specs.declared.rounds.Placement.{Placement as PlacementEntry}
-use Rattle.rolls.specs.Roll.{put_all}
-use Rattle.rolls.specs.Rows.{placement_cells, rows_in}
-use Rattle.rolls.specs.State.{State, placement_key, last_round}
-use Rattle.rolls.specs.Stepping.{with_last}
-use Rattle.rolls.specs.Closing.{kept, after_close}
-use Rattle.rolls.proofs.LastRound.{open_within}
-use Rattle.change_laws.proofs.Keyed.{all_beside}
 use Rattle.change_laws.proofs.Changes.{SameElsewhere, add, added_transforms, transforms_follow}
 use Rattle.change_laws.proofs.KeyTests.{code_test}
 use Rattle.change_laws.proofs.OneRow.{rows_free}
 use Rattle.change_laws.proofs.Rounds.{round_transforms}
 use Rattle.change_laws.proofs.Same.{from_same}
-use Rattle.closing.specs.Changes.{placement_added}
-use Rattle.closing.specs.Laws.{ClosingTransforms}
 use Rattle.closing.proofs.Unplaced.{pairs_new}
 
 pub close_transforms : ClosingTransforms

@@ -1,11 +1,6 @@
 -- Lists of entries: what is counted and found in them and in what is made of them, and how keys rise.
 use Rattle.std.proofs.Common.{◌≡◌, ℕ, ◌≤◌, inl, inr, Bool, true, false, cond, List, [], ◌∷◌, map, count_by, find, Option, Some, option_map, refl, ap, ◌∙◌, arith}
-use Rattle.std.specs.List.{AllByRecursion}
-use Rattle.std.specs.Str.{bytes_eq}
-use Rattle.std.proofs.lemmas.Bool.{cases_Bool}
-use Rattle.std.proofs.lemmas.List.Sums.{sum_by-cons}
-use Rattle.rolls.specs.Roll.{Key, same_key, find as entry}
-use Rattle.rolls.proofs.EntryChange.{same_code}
+use Rattle.closing.proofs.Common.{AllByRecursion, bytes_eq, cases_Bool, sum_by-cons, Key, same_key, entry, same_code}
 
 -- ---- what holds of each
 

@@ -1,24 +1,8 @@
 -- A matching of the open round, kept: the office stays fit. Putting placements counts no more of them than there were and are
 -- put, so what is left of the quotas bounds them; and what is found afterwards was found before, or is by the round that closes.
 use Rattle.std.proofs.Common.{◌≡◌, ℕ, zero, suc, ◌+◌, ◌-◌, ◌<◌, ◌≤◌, inl, inr, true, false, not, List, [], ◌∷◌, length, map, count_by, Option, Some, None, Contains, slice_get, get_or, refl, sym, ap, ◌∙◌, subst, arith}
-use Rattle.std.specs.Prelude.{nat_lt}
-use Rattle.std.specs.Option.{option_map_or}
-use Rattle.std.specs.List.{AllByRecursion, prefix_len}
-use Rattle.std.specs.Str.{bytes_eq}
-use Rattle.std.proofs.lemmas.Bool.{le-ltb, cases_Bool}
-use Rattle.std.proofs.lemmas.Slice.Eq.{bytes_eq-Decides}
-use Rattle.std.proofs.lemmas.List.Elements.{recursion_from_All}
-use Rattle.spa.specs.Coded.{CodePair, choices_of, offerer_of, rank_by_codes}
-use Rattle.rolls.specs.Roll.{put_all, rises}
+use Rattle.closing.proofs.Common.{nat_lt, option_map_or, AllByRecursion, prefix_len, bytes_eq, le-ltb, cases_Bool, bytes_eq-Decides, recursion_from_All, CodePair, choices_of, offerer_of, rank_by_codes, put_all, rises, Listed, Placement, State, list_key, placement_key, last_round, round_of, is_closed, lists_of, choices_in, is_offered_by, is_placed_before, quota_in, quota_with, round_instance, IsFit, ListFits, PlacementFits, MayClose, kept, after_close, all_weaker, has_reading, closed_before, round_within, aimed_kept, last_kept, numbered_kept, last_open_kept, other_kept, reading_kept, reading_changed, same_lists}
 use Rattle.rolls.specs.declared.rounds.Round.{Round}
-use Rattle.rolls.specs.declared.rounds.Listed.{Listed}
-use Rattle.rolls.specs.declared.rounds.Placement.{Placement}
-use Rattle.rolls.specs.State.{State, list_key, placement_key, last_round, round_of, is_closed, lists_of, choices_in, is_offered_by, is_placed_before, quota_in, quota_with}
-use Rattle.rolls.specs.Instances.{round_instance}
-use Rattle.rolls.specs.Fit.{IsFit, ListFits, PlacementFits}
-use Rattle.rolls.specs.Closing.{MayClose, kept, after_close}
-use Rattle.rolls.proofs.EntryChange.{all_weaker}
-use Rattle.rolls.proofs.LastRound.{has_reading, closed_before, round_within, aimed_kept, last_kept, numbered_kept, last_open_kept, other_kept, reading_kept, reading_changed, same_lists}
 use Rattle.closing.proofs.Entries.{all_made, all_always, count_made, count_fewer}
 use Rattle.closing.proofs.ManyPuts.{rises_put_all, all_put_all, found_put_all, count_put_all}
 use Rattle.closing.proofs.OpenRound.{places_left, places_with_left, same_offerer, same_choices}

@@ -1,12 +1,6 @@
 -- Entries put one after another: each fact of a put, for all of them.
 use Rattle.std.proofs.Common.{◌≡◌, ◌+◌, ◌≤◌, Bool, true, false, cond, List, [], ◌∷◌, ◌++◌, count_by, Option, Some, refl, sym, subst, arith}
-use Rattle.std.specs.List.{AllByRecursion}
-use Rattle.std.specs.declared.cmp.Ordering.{Ordering}
-use Rattle.std.specs.declared.cmp.Ordering.TheVariants.{Less, Equal, Greater}
-use Rattle.std.proofs.lemmas.List.Sums.{sum_by-cons}
-use Rattle.rolls.specs.Roll.{Key, key_cmp, same_key, by_order, find, put, put_all, rises}
-use Rattle.rolls.proofs.EntryChange.{find-put, all-put}
-use Rattle.rolls.proofs.Places.{rises-put}
+use Rattle.closing.proofs.Common.{AllByRecursion, Ordering, Less, Equal, Greater, sum_by-cons, Key, key_cmp, same_key, by_order, find, put, put_all, rises, find-put, all-put, rises-put}
 
 module _ {E : Type 0} (key : E → Key) where
   -- the keys go on rising

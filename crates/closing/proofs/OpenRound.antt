@@ -1,16 +1,7 @@
 -- An office with an open round: what its instance has.
 use Rattle.std.proofs.Common.{◌≡◌, ℕ, ◌-◌, true, false, List, [], Option, Some, None, option_map, refl, sym, ap, ◌∙◌, arith}
-use Rattle.std.specs.Option.{option_map_or}
-use Rattle.std.specs.Str.{bytes_eq}
+use Rattle.closing.proofs.Common.{option_map_or, bytes_eq, choices_of, offerer_of, places_in, places_with, Supervisor, Project, Listed, Key, find, State, supervisor_key, project_key, list_key, supervisor_of, project_of, list_of, lists_of, last_round, choices_in, is_offered_by, quota_in, quota_with, placed_in_project, placed_with_supervisor, round_instance, found_key}
 use Rattle.spa.specs.Instance as spa
-use Rattle.spa.specs.Coded.{choices_of, offerer_of, places_in, places_with}
-use Rattle.rolls.specs.declared.entries.Supervisor.{Supervisor}
-use Rattle.rolls.specs.declared.entries.Project.{Project}
-use Rattle.rolls.specs.declared.rounds.Listed.{Listed}
-use Rattle.rolls.specs.Roll.{Key, find}
-use Rattle.rolls.specs.State.{State, supervisor_key, project_key, list_key, supervisor_of, project_of, list_of, lists_of, last_round, choices_in, is_offered_by, quota_in, quota_with, placed_in_project, placed_with_supervisor}
-use Rattle.rolls.specs.Instances.{round_instance}
-use Rattle.rolls.proofs.Found.{found_key}
 use Rattle.closing.proofs.Entries.{find_made}
 
 -- ---- the instance of the last round

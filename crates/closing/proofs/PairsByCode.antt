@@ -1,10 +1,8 @@
 -- Places that stand for a matching by positions, as pairs of codes.
 use Rattle.std.proofs.Common.{◌≡◌, List, map, length, sym, ap, ◌∙◌, subst}
-use Rattle.std.proofs.lemmas.List.{length-map}
+use Rattle.closing.proofs.Common.{length-map, CodePair, IsMatchingByCodes, IsBestByCodes, profile_by_codes, codes_of, taken, CodesSayTheSame, PlacesAreTaken}
 use Rattle.spa.specs.Instance as spa
 use Rattle.spa.specs.Matched.{pairs}
-use Rattle.spa.specs.Coded.{CodePair, IsMatchingByCodes, IsBestByCodes, profile_by_codes, codes_of, taken, CodesSayTheSame}
-use Rattle.closing.specs.Laws.{PlacesAreTaken}
 
 -- the pairs that are taken are the matching's, and what is said of those by codes is said of these
 pub places_taken : CodesSayTheSame → PlacesAreTaken

@@ -1,26 +1,11 @@
 -- The placements that places in the lists of the last round make are the pairs taken at them, kept: a place is the rank of its
 -- pair, since no project stands twice in a list.
 use Rattle.std.proofs.Common.{◌≡◌, ℕ, zero, suc, ◌+◌, ◌-◌, ◌<◌, ◌≤◌, not, List, [], ◌∷◌, ◌++◌, length, map, drop, get_or, Option, Some, None, slice_get, slice_index_or, option_map, refl, sym, ap, ◌∙◌, append_assoc, arith}
-use Rattle.std.specs.Option.{option_map_or}
-use Rattle.std.specs.List.{AllByRecursion, prefix_len}
-use Rattle.std.specs.Str.{bytes_eq}
-use Rattle.std.proofs.lemmas.List.{length-map, length-append}
+use Rattle.closing.proofs.Common.{option_map_or, AllByRecursion, prefix_len, bytes_eq, length-map, length-append, code_at, choices_of, rank_by_codes, taken, entry, Listed, Placement, State, list_key, last_round, lists_of, round_instance, IsFit, ListFits, kept, placed_at, placed_by, PlacedIsKept, PlacesAreInLists, all_two}
 use Rattle.spa.specs.Shape.{IsPlaceOf}
-use Rattle.spa.specs.Codes.{code_at}
 use Rattle.spa.specs.Instance as spa
 use Rattle.spa.specs.Named.{instance_of, students_named}
-use Rattle.spa.specs.Coded.{choices_of, rank_by_codes, taken}
-use Rattle.rolls.specs.Roll.{find as entry}
-use Rattle.rolls.specs.declared.rounds.Listed.{Listed}
-use Rattle.rolls.specs.declared.rounds.Placement.{Placement}
-use Rattle.rolls.specs.State.{State, list_key, last_round, lists_of}
-use Rattle.rolls.specs.Instances.{round_instance}
-use Rattle.rolls.specs.Fit.{IsFit, ListFits}
-use Rattle.rolls.specs.Closing.{kept}
-use Rattle.closing.specs.Places.{placed_at, placed_by}
-use Rattle.closing.specs.Laws.{PlacedIsKept, PlacesAreInLists}
 use Rattle.closing.proofs.Entries.{find_made}
-use Rattle.rolls.proofs.NoMoreThanFound.{all_two}
 use Rattle.closing.proofs.UniqueCodes.{same_as_itself, place_of_code, each_found}
 
 abbrev listed : Listed → spa.Student

@@ -1,32 +1,16 @@
 -- The instance of a round of a fit office has no fault, whatever is taken, and it is what its rolls give.
 use Rattle.std.proofs.Common.{◌≡◌, ℕ, zero, suc, ◌+◌, ◌-◌, ◌<◌, ◌≤◌, true, List, [], ◌∷◌, ◌++◌, length, map, drop, get_or, Contains, Option, refl, sym, ap, ◌∙◌, subst, append_assoc, arith}
-use Rattle.std.specs.List.{AllByRecursion}
-use Rattle.std.proofs.lemmas.Option.{slice_get_within}
-use Rattle.std.proofs.lemmas.List.{length-map, drop_more}
-use Rattle.std.proofs.lemmas.List.Elements.{All-from_recursion}
+use Rattle.closing.proofs.Common.{AllByRecursion, slice_get_within, length-map, drop_more, All-from_recursion, IsFirstRepeated, supervisor_codes, project_codes, student_codes, given, supervisors_of, projects_of, students_of, IsWithin, AreDistinct, HasDistinctCodes, IsSoundList, IsListFault, IsFirstListFault, IsFirstInstanceFault, Supervisor, Project, Listed, Placement, State, supervisor_key, project_key, list_key, lists_of, has_project, instance_left, IsFit, SupervisorFits, ProjectFits, ListFits, AreRolls, count_in, count_with, all_weaker, few_lists}
 use Rattle.spa.specs.declared.TheConstants.{MAX_QUOTA}
 use Rattle.spa.specs.declared.fault.Roll.TheVariants.{Supervisors, Projects, Students}
 use Rattle.spa.specs.declared.fault.InstanceFault.{InstanceFault}
 use Rattle.spa.specs.declared.fault.InstanceFault.TheVariants.{Memory, Limit, RepeatedCode, UnknownSupervisor, ListLength, UnknownProject, RepeatedProject}
-use Rattle.spa.specs.Codes.{IsFirstRepeated}
 use Rattle.spa.specs.Instance as spa
-use Rattle.spa.specs.Instance.{supervisor_codes, project_codes, student_codes, given, supervisors_of, projects_of, students_of}
-use Rattle.spa.specs.Made.{IsWithin, AreDistinct, HasDistinctCodes, IsSoundList, IsListFault, IsFirstListFault, IsFirstInstanceFault}
-use Rattle.rolls.specs.declared.entries.Supervisor.{Supervisor}
-use Rattle.rolls.specs.declared.entries.Project.{Project}
-use Rattle.rolls.specs.declared.rounds.Listed.{Listed}
-use Rattle.rolls.specs.declared.rounds.Placement.{Placement}
-use Rattle.rolls.specs.State.{State, supervisor_key, project_key, list_key, lists_of, has_project}
-use Rattle.rolls.specs.Instances.{instance_left}
-use Rattle.rolls.specs.Fit.{IsFit, SupervisorFits, ProjectFits, ListFits}
-use Rattle.rolls.specs.Counted.{AreRolls, count_in, count_with}
-use Rattle.rolls.proofs.EntryChange.{all_weaker}
 use Rattle.rolls.proofs.Positions.{fit_rolls}
 use Rattle.closing.specs.Inside.Handed as handed
 use Rattle.closing.specs.Handed.{AreParts, ArePartsOfFit}
 use Rattle.closing.proofs.Entries.{all_made}
 use Rattle.change_laws.proofs.Determine.{rises_made}
-use Rattle.rolls.proofs.NoMoreThanFound.{few_lists}
 use Rattle.closing.proofs.UniqueCodes.{code_key, apart_since_rise, apart_since_distinct, contains_found, all_at}
 
 -- ---- the instance

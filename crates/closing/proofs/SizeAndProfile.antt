@@ -1,16 +1,7 @@
 -- What closing answers: the size and the profile of a matching are those of what is kept of it.
 use Rattle.std.proofs.Common.{◌≡◌, ℕ, Bool, ◌+◌, map, count_by, refl, ap}
-use Rattle.std.specs.Prelude.{◌==◌, ◌&&◌}
-use Rattle.std.proofs.lemmas.Bool.{eq-eqb}
-use Rattle.std.proofs.lemmas.List.{length-map}
-use Rattle.spa.specs.Coded.{rank_by_codes, profile_by_codes}
-use Rattle.rolls.specs.Stepping.{by_rank}
-use Rattle.rolls.specs.Closing.{kept}
-use Rattle.rolls.specs.declared.rounds.Placement.{Placement}
+use Rattle.closing.proofs.Common.{◌==◌, ◌&&◌, eq-eqb, length-map, rank_by_codes, profile_by_codes, by_rank, kept, Placement, last_round, round_instance, KeptIsCounted}
 use Rattle.rolls.specs.declared.request.Reply.TheVariants as reply
-use Rattle.rolls.specs.State.{last_round}
-use Rattle.rolls.specs.Instances.{round_instance}
-use Rattle.closing.specs.Laws.{KeptIsCounted}
 use Rattle.closing.proofs.Entries.{count_made}
 
 -- what is kept has the round, and the pairs' ranks

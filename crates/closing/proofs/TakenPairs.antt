@@ -1,16 +1,8 @@
 -- Places of a matching close the open round: the placements that they make are the pairs taken, kept, so what is made of them is
 -- what closing makes of the pairs.
 use Rattle.std.proofs.Common.{List, map, ◌≡◌, sym, ap, ◌∙◌, subst}
-use Rattle.spa.specs.Coded.{CodePair, taken, CodesSayTheSame}
-use Rattle.rolls.specs.declared.rounds.Placement.{Placement}
+use Rattle.closing.proofs.Common.{CodePair, taken, CodesSayTheSame, Placement, last_round, round_instance, IsFit, MayClose, kept, after_close, Transforms, after_placing, placed_reply, closing_changes, close_changes, PlacesClose}
 use Rattle.row_model.specs.declared.row.Change.{Change}
-use Rattle.rolls.specs.State.{last_round}
-use Rattle.rolls.specs.Instances.{round_instance}
-use Rattle.rolls.specs.Fit.{IsFit}
-use Rattle.rolls.specs.Closing.{MayClose, kept, after_close}
-use Rattle.rolls.specs.Rows.{Transforms}
-use Rattle.closing.specs.Changes.{after_placing, placed_reply, closing_changes, close_changes}
-use Rattle.closing.specs.Laws.{PlacesClose}
 use Rattle.closing.proofs.Kept.{close_keeps_fit}
 use Rattle.closing.proofs.ClosingRows.{close_transforms}
 use Rattle.closing.proofs.PairsByCode.{places_taken}

@@ -1,22 +1,8 @@
 -- Codes that stand once in a list, and entries that are found by their codes.
 use Rattle.std.proofs.Common.{◌≡◌, ℕ, zero, suc, ◌<◌, inl, inr, true, not, cond, List, [], ◌∷◌, length, map, Option, Some, Contains, slice_get, get_or, refl, sym, ap, ◌∙◌, subst, arith}
-use Rattle.std.specs.Prelude.{is_some}
-use Rattle.std.specs.List.{AllByRecursion, list_any, prefix_len}
-use Rattle.std.specs.Str.{bytes_eq}
+use Rattle.closing.proofs.Common.{is_some, AllByRecursion, list_any, prefix_len, bytes_eq, MatchOption, Ordering, Less, Equal, Greater, cases_Bool, prefix_len_is, same_Some, slice_get-get_or, bytes_eq-Decides, Key, key_cmp, same_key, entry, is_below, rises, is_distinct, same_code, keys_total, all_above, all_two}
 use Rattle.std.specs.Cmp.{first_so, second_so}
-use Rattle.std.specs.Option.{MatchOption}
 use Rattle.std.specs.Ordering.{is_lt, is_eq, ordering_reverse}
-use Rattle.std.specs.declared.cmp.Ordering.{Ordering}
-use Rattle.std.specs.declared.cmp.Ordering.TheVariants.{Less, Equal, Greater}
-use Rattle.std.proofs.lemmas.Bool.{cases_Bool}
-use Rattle.std.proofs.lemmas.List.Sums.{prefix_len_is}
-use Rattle.std.proofs.lemmas.Option.{same_Some, slice_get-get_or}
-use Rattle.std.proofs.lemmas.Slice.Eq.{bytes_eq-Decides}
-use Rattle.rolls.specs.Roll.{Key, key_cmp, same_key, find as entry, is_below, rises}
-use Rattle.rolls.specs.Fit.{is_distinct}
-use Rattle.rolls.proofs.EntryChange.{same_code}
-use Rattle.rolls.proofs.Places.{keys_total}
-use Rattle.rolls.proofs.NoMoreThanFound.{all_above, all_two}
 
 -- ---- codes that rise are distinct
 

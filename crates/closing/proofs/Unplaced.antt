@@ -1,24 +1,7 @@
 -- The students of a matching of the open round have no placement yet, and no two of its pairs are of one student: so each
 -- placement that closing adds is new. Who has a list in the open round is placed by no round before, and no other is closed.
 use Rattle.std.proofs.Common.{◌≡◌, ℕ, ◌+◌, ◌<◌, ◌≤◌, Bool, true, false, cond, List, [], ◌∷◌, map, count_by, Option, Some, None, Contains, is_some, refl, sym, ap, subst, ◌∙◌, arith}
-use Rattle.std.specs.Prelude.{nat_lt}
-use Rattle.std.specs.Option.{option_map_or}
-use Rattle.std.specs.List.{AllByRecursion}
-use Rattle.std.specs.Str.{bytes_eq}
-use Rattle.std.proofs.lemmas.Bool.{false_from_ne_true, lt-ltb}
-use Rattle.std.proofs.lemmas.List.Sums.{sum_by-cons}
-use Rattle.spa.specs.Coded.{CodePair}
-use Rattle.rolls.specs.Roll.{Key, find, of_code}
-use Rattle.rolls.specs.declared.rounds.Listed.{Listed}
-use Rattle.rolls.specs.declared.rounds.Placement.{Placement}
-use Rattle.rolls.specs.State.{State, list_key, placement_key, last_round, list_of, lists_of, choices_in, placement_of, is_placed_before}
-use Rattle.rolls.specs.Fit.{IsFit, ListFits, PlacementFits}
-use Rattle.rolls.specs.Closing.{MayClose, kept}
-use Rattle.rolls.proofs.EntryChange.{all_weaker, bytes_self, same_bytes, same_code}
-use Rattle.rolls.proofs.Found.{found_key, holds_of_found}
-use Rattle.rolls.proofs.LastRound.{closed_before}
-use Rattle.rolls.proofs.NoMoreThanFound.{all_two}
-use Rattle.change_laws.proofs.Keyed.{AreNew}
+use Rattle.closing.proofs.Common.{nat_lt, option_map_or, AllByRecursion, bytes_eq, false_from_ne_true, lt-ltb, sum_by-cons, CodePair, Key, find, of_code, Listed, Placement, State, list_key, placement_key, last_round, list_of, lists_of, choices_in, placement_of, is_placed_before, IsFit, ListFits, PlacementFits, MayClose, kept, all_weaker, bytes_self, same_bytes, same_code, found_key, holds_of_found, closed_before, all_two, AreNew}
 use Rattle.closing.proofs.Kept.{pairs_listed}
 
 -- ---- no student twice

@@ -1,12 +1,8 @@
 -- What a fault says of the kinds by which `clap` fails.
 use Rattle.std.proofs.Common.{◌≡◌, ◌⊎◌, inl, inr, subst, refl, sym, Result, Ok, Err, MatchResult, String}
 use Rattle.std.specs.declared.alloc.Global.{Global}
-use Rattle.clap.specs.Words.{IsAmong}
-use Rattle.clap.specs.Words.{Kinds as ErrorKinds}
-use Rattle.clap.specs.declared.error.kind.ErrorKind.{ErrorKind}
+use Rattle.commands.proofs.Common.{IsAmong, ErrorKinds, ErrorKind, IsFaultOf, IsFaultAs, IsReportedBy}
 use Rattle.clap.specs.declared.error.kind.ErrorKind.TheVariants.{OutOfMemory}
-use Rattle.commands.specs.Reading.{IsFaultOf}
-use Rattle.commands.specs.Inside.Reading.{IsFaultAs, IsReportedBy}
 use Rattle.commands.specs.declared.line.LineFault.{LineFault}
 use Rattle.commands.specs.declared.line.LineFault.TheVariants.{Memory, Help, Version, Fault}
 

@@ -1,7 +1,6 @@
 -- What a search for a word finds.
 use Rattle.std.proofs.Common.{◌≡◌, ℕ, Bool, List, [], ◌∷◌, Some, IfSome, cond, true, false, refl, sym, find}
-use Rattle.std.specs.Str.{bytes_eq}
-use Rattle.std.proofs.lemmas.Slice.Eq.{bytes_eq-Decides}
+use Rattle.commands.proofs.Common.{bytes_eq, bytes_eq-Decides}
 
 -- what is found passes
 find_passes : {X : Type 0} (p : X → Bool) (xs : List X) → IfSome (find p xs) (λ x. p x ≡ true)

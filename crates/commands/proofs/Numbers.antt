@@ -1,13 +1,9 @@
 -- What `parse` makes of a word that may stand for a number.
 use Rattle.std.proofs.Common.{◌≡◌, ◌^◌, ℕ, List, Result, Ok, Err, arith, false, refl, true}
-use Rattle.std.specs.Prelude.{IsOk}
+use Rattle.commands.proofs.Common.{IsOk, IsNumberBelow, fits, Takes, Number}
 use Rattle.std.specs.Str.Parse.{ParsesUnsigned}
 use Rattle.clap.proofs.ValueTestLemmas.{accepts-Accepts}
 use Rattle.clap.specs.declared.builder.value_parser.ValueParser.TheVariants.{Unsigned}
-use Rattle.commands.specs.Inside.Reading.{IsNumberBelow}
-use Rattle.commands.specs.Reading.{fits}
-use Rattle.commands.specs.declared.table.Takes.{Takes}
-use Rattle.commands.specs.declared.table.Takes.TheVariants.{Number}
 
 -- a number of k bits is read
 pub is_read : {E : Type 0} (k : ℕ) (takes : Takes) (word : List ℕ) (r : Result ℕ E) → ParsesUnsigned k 10 word r → IsNumberBelow (2 ^ k) takes → fits takes word ≡ true → IsOk r

@@ -1,9 +1,7 @@
 -- The program's command is simple, so that `clap` says in full what it makes of the words.
 use Rattle.std.proofs.Common.{◌≡◌, ◌&&◌, Bool, true, false, refl}
-use Rattle.clap.specs.Words.{is_simple_and_free}
+use Rattle.commands.proofs.Common.{is_simple_and_free, program, Kinds}
 use Rattle.clap.proofs.OnLiterals.{clap_on_literals}
-use Rattle.commands.specs.Program.{program}
-use Rattle.commands.specs.declared.program.Kinds.{Kinds}
 
 -- whatever words are lent to it
 pub program_is_simple : (kinds : Kinds) → is_simple_and_free (program kinds) ≡ true

@@ -1,8 +1,7 @@
 -- The subcommand of a parse, by its name and its matches.
 use Rattle.std.proofs.Common.{◌≡◌, List, Option, Some, None, option_map, refl, subst}
-use Rattle.std.specs.Prelude.{IsSomeAnd}
+use Rattle.commands.proofs.Common.{IsSomeAnd, Row, Text}
 use Rattle.std.proofs.lemmas.Option.{same_Some}
-use Rattle.clap.specs.Words.{Row, Text}
 
 -- what holds of it holds of its name and its matches
 pub used_has : (P : Text → List Row → Type 0) (s : Option (Text × List Row)) (name : Text) (rows : List Row) → option_map (λ p. p.0) s ≡ Some name → option_map (λ p. p.1) s ≡ Some rows

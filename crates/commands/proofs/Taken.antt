@@ -2,25 +2,20 @@
 -- A line has arguments that take one value by their place, and the flag for help, at which `clap` fails. So a walk without
 -- a fault meets values alone. Each is tested when the next one comes, or at the end, before it becomes a row.
 use Rattle.std.proofs.Common.{◌≡◌, ◌⊎◌, ◌&&◌, ◌||◌, ◌++◌, ◌==◌, ◌∙◌, ℕ, Bool, List, [], ◌∷◌, Option, Some, None, IfSome, true, false, not, zero, suc, length, refl, sym, ap, subst, cond, inl, inr, find, fold, is_some, codes}
-use Rattle.std.specs.Prelude.{IsSomeAnd, slice_get, option_and_then, option_map}
-use Rattle.std.specs.List.{list_any}
+use Rattle.commands.proofs.Common.{IsSomeAnd, slice_get, option_and_then, option_map, list_any, bytes_eq, chars, bytes_eq-Decides, action_fault, built_fault, bundle_step_fault, entered_fault, flag_word_fault, level_fault, long_fault, other_fault, react_fault, set_fault, settle_fault, short_fault, step_fault, stray_fault, turn_fault, use_fault, word_fault, Shape, entered, label_of, names_of, rows_at, Held, Names, Outcome, Rule, Step, Waiting, Walk, action_of, after_flag, after_step, answers_to, arg_by_id, arg_by_index, arg_by_long, arg_by_short, bundle_step, default_rows, done, finished, first_of, has_long, has_row, has_short, idle, is_multiple, is_pending, long_or_other, long_word, more_values, next, nothing_held, option, plain, plain_word, positional, reading_by, refused, rows_after, settled, settled_rows, short_or_plain, subcommand, subcommand_met, subcommand_or_other, takes_several, takes_values, to_positional, trailing, used, used_as, used_by_id, value, values_or_missing, waits, walk, walk_from, walked_from, with_default, with_values, without, word_met, Each, HasOne, ErrorKind}
 use Rattle.std.specs.Option.{option_map_or}
-use Rattle.std.specs.Str.{bytes_eq, chars}
-use Rattle.std.proofs.lemmas.Slice.Eq.{bytes_eq-Decides}
 use Rattle.clap.specs.Facts.{explicit_source, parser_of_value, unwrap_or_range}
-use Rattle.clap.specs.Faults.{action_fault, built_fault, bundle_step_fault, entered_fault, flag_word_fault, flags_fault, level_fault, long_fault, other_fault, react_fault, set_fault, settle_fault, short_fault, step_fault, stray_fault, turn_fault, use_fault, walk_fault, word_fault}
+use Rattle.clap.specs.Faults.{flags_fault, walk_fault}
 use Rattle.clap.specs.Kinds.{Kinds as ErrorKinds, check_kinds, or_else, range_kinds}
 use Rattle.clap.specs.Lexer.{long_of, short_of}
-use Rattle.clap.specs.Simple.{App, Shape, entered, label_of, names_of, rows_at}
+use Rattle.clap.specs.Simple.{App}
 use Rattle.clap.specs.Takes.{is_given, value_passes}
 use Rattle.clap.specs.Values.{refused_kind}
-use Rattle.clap.specs.Walk.{Held, Names, Outcome, Row, Rule, Step, Text, Waiting, Walk, action_of, after_flag, after_step, answers_to, arg_by_id, arg_by_index, arg_by_long, arg_by_short, bundle_met, bundle_step, default_rows, done, finished, first_of, has_long, has_row, has_short, idle, is_multiple, is_pending, long_or_other, long_word, more_values, next, nothing_held, option, plain, plain_word, positional, reading_by, refused, rows_after, settled, settled_rows, short_or_plain, subcommand, subcommand_met, subcommand_or_other, takes_several, takes_values, to_positional, trailing, used, used_as, used_by_id, value, values_or_missing, waits, walk, walk_from, walked, walked_from, with_default, with_values, without, word_met}
-use Rattle.commands.specs.Reading.{Each, HasOne}
+use Rattle.clap.specs.Walk.{Row, Text, bundle_met, walked}
 use Rattle.clap.specs.declared.builder.action.ArgAction.{ArgAction}
 use Rattle.clap.specs.declared.builder.action.ArgAction.TheVariants.{Set, Help}
 use Rattle.clap.specs.declared.builder.range.ValueRange.{ValueRange}
 use Rattle.clap.specs.declared.builder.value_parser.Reading.{Reading}
-use Rattle.clap.specs.declared.error.kind.ErrorKind.{ErrorKind}
 use Rattle.clap.specs.declared.error.kind.ErrorKind.TheVariants as kind
 use Rattle.clap.specs.declared.parser.matches.ValueSource.{ValueSource}
 

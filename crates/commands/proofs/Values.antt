@@ -1,25 +1,10 @@
 -- Where `clap` finds no fault in the words, they name a line, and each of its arguments has a word that may stand for it.
 use Rattle.std.proofs.Common.{◌≡◌, ◌||◌, ◌∙◌, ℕ, Bool, List, [], ◌∷◌, Option, Some, None, true, false, inl, inr, refl, sym, ap, subst, map, codes}
-use Rattle.std.specs.Prelude.{IsSomeAnd}
+use Rattle.commands.proofs.Common.{IsSomeAnd, list_any, bytes_eq, bytes_eq-Decides, word_of, list_any-map, level_fault, Shape, argument_words, built, filled, help_rule, with_index, arg_by_id, nothing_held, rows_after, Row, Text, fault_of, subcommand_of, import_kinds, report_kinds, report_word, AreWords, parser_of, program, rule_by, AreGiven, Each, HasOne, IsGiven, fits, word_in, Argument, aim, count, database, file, id, import_kind, port, report_kind, round, Kinds, Takes, Word, Number, ImportKind, ReportKind, Aim}
 use Rattle.std.specs.Borrow.{Bor}
-use Rattle.std.specs.List.{list_any}
-use Rattle.std.specs.Str.{bytes_eq}
-use Rattle.std.proofs.lemmas.Slice.Eq.{bytes_eq-Decides}
 use Rattle.spa.specs.Aims.{aims, aim_word}
-use Rattle.rolls.specs.Kinds.{word_of}
-use Rattle.clap.proofs.WalkLemmas.{list_any-map}
-use Rattle.clap.specs.Faults.{level_fault}
-use Rattle.clap.specs.Simple.{Shape, argument_words, built, filled, help_rule, with_index}
 use Rattle.clap.specs.ValueTests.{accepts}
-use Rattle.clap.specs.Walk.{arg_by_id, nothing_held, rows_after}
-use Rattle.clap.specs.Words.{Row, Rule, Text, fault_of, subcommand_of}
-use Rattle.commands.specs.Kinds.{import_kinds, report_kinds, report_word}
-use Rattle.commands.specs.Program.{AreWords, parser_of, program, rule_by}
-use Rattle.commands.specs.Reading.{AreGiven, Each, HasOne, IsGiven, fits, word_in}
-use Rattle.commands.specs.Table.{Argument, aim, count, database, file, id, import_kind, port, report_kind, round}
-use Rattle.commands.specs.declared.program.Kinds.{Kinds}
-use Rattle.commands.specs.declared.table.Takes.{Takes}
-use Rattle.commands.specs.declared.table.Takes.TheVariants.{Word, Number, ImportKind, ReportKind, Aim}
+use Rattle.clap.specs.Words.{Rule}
 use Rattle.commands.proofs.Taken.{HasValue, IsHelp, IsValue, Plain, app_values, line_values}
 
 same_words : {K : Type 0} (word_by : K → Text) (kinds : List K) (names : List (Bor Text)) (word : Text) → map (λ n. n.now) names ≡ map word_by kinds

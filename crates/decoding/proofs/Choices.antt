@@ -1,22 +1,8 @@
 -- The rows of choices give what each student lists in each round: at a place of a list stands the project whose row is there.
 use Rattle.std.proofs.Common.{◌≡◌, ℕ, zero, suc, ◌+◌, ◌<◌, ◌==◌, Bool, true, false, List, [], ◌∷◌, slice_get, refl, sym, ap, ◌∙◌, arith}
-use Rattle.std.specs.Prelude.{◌&&◌, ◌||◌, flat_map}
-use Rattle.std.specs.List.{list_any}
-use Rattle.std.specs.Option.{option_map_or}
-use Rattle.std.specs.Cmp.{first_so}
-use Rattle.std.specs.Str.{bytes_eq}
-use Rattle.std.proofs.lemmas.Bool.{eq-eqb}
-use Rattle.std.proofs.lemmas.Bool.Decides.{nat_tests}
+use Rattle.decoding.proofs.Common.{◌&&◌, ◌||◌, flat_map, list_any, option_map_or, first_so, bytes_eq, eq-eqb, nat_tests, Text, Number, Cells, begins, State, choices_in, choice_cells, choice_rows, rows_of_round, bytes_self, IsShaped, and_true, begins_both}
 use Rattle.std.proofs.lemmas.Map.Views.{any-filter_same}
-use Rattle.row_model.specs.declared.cell.Cell.TheVariants.{Text, Number}
-use Rattle.row_model.specs.Rows.{Cells, begins}
-use Rattle.rolls.specs.State.{State, choices_in}
-use Rattle.rolls.specs.Rows.{choice_cells, choice_rows, rows_of_round}
-use Rattle.rolls.proofs.EntryChange.{bytes_self}
-use Rattle.rolls.proofs.Shaped.{IsShaped}
 use Rattle.change_laws.proofs.Choices.{rows_are}
-use Rattle.change_laws.proofs.KeyTests.{and_true}
-use Rattle.change_laws.proofs.Keyed.{begins_both}
 use Rattle.change_laws.proofs.Lists.{head}
 
 or_false : (b : Bool) → (b || false) ≡ b

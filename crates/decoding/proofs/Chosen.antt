@@ -1,16 +1,7 @@
 -- A round is taken out of the rounds and put in again with one more choice: the row of the choice is taken in.
 use Rattle.std.proofs.Common.{◌≡◌, ℕ, ◌+◌, Bool, true, false, cond, List, [], length, Option, Some, None, refl, sym, ap, ◌∙◌}
-use Rattle.std.proofs.lemmas.Bool.{eq-eqb}
-use Rattle.rolls.specs.declared.rounds.Round.{Round}
-use Rattle.rolls.specs.declared.rounds.Listed.{Listed}
-use Rattle.rolls.specs.Roll.{Key, find, put, take_out, rises, same_key}
-use Rattle.rolls.specs.State.{State, round_key, round_of}
-use Rattle.rolls.proofs.EntryChange.{find-put, find-take_out}
-use Rattle.rolls.proofs.Found.{found_key}
-use Rattle.rolls.proofs.Places.{rises-put, rises-filter}
+use Rattle.decoding.proofs.Common.{eq-eqb, Round, Listed, Key, find, put, take_out, rises, same_key, State, round_key, round_of, find-put, find-take_out, found_key, rises-put, rises-filter, where_so, choices_among, with_choice, with_next}
 use Rattle.rolls.proofs.Same.{same_found}
-use Rattle.decoding.specs.Inside.Decoded.{where_so}
-use Rattle.decoding.specs.Inside.Gathering.{choices_among, with_choice, with_next}
 
 over_none : {A : Type 0} (b : Bool) (x y : Option A) → cond b x (cond b None y) ≡ cond b x y
 over_none true x y = refl

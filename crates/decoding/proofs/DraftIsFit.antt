@@ -1,31 +1,9 @@
 -- The finite tests of a draft are the fitness of an office. Entries are tested where they stand, and an entry that stands in a
 -- table is the one that is found at its key; a placed project is listed, so it is on the roll, and so is its supervisor.
 use Rattle.std.proofs.Common.{◌≡◌, ℕ, ◌+◌, ◌-◌, ◌≤◌, Bool, true, false, not, cond, List, [], ◌∷◌, length, count_by, Option, Some, None, is_some, slice_get, refl, sym, ap, subst, ◌∙◌, arith}
-use Rattle.std.specs.Prelude.{◌&&◌, nat_le, IsTrue}
-use Rattle.std.specs.Cmp.{first_so, second_so}
-use Rattle.std.specs.List.{list_all, AllByRecursion}
-use Rattle.std.specs.Option.{option_map_or}
-use Rattle.std.specs.Str.{bytes_eq}
-use Rattle.std.proofs.lemmas.Bool.{and_from}
+use Rattle.decoding.proofs.Common.{◌&&◌, nat_le, IsTrue, first_so, second_so, list_all, AllByRecursion, option_map_or, bytes_eq, and_from, all_both, all_from_test, all_weaker, test_from_all, MAX_SUPERVISORS, MAX_PROJECTS, MAX_STUDENTS, RANKS, Supervisor, Project, Student, Import, Placement, MAX_ROUNDS, MAX_IMPORTS, SupervisorEntry, ProjectEntry, RoundEntry, Listed, PlacementEntry, Key, State, supervisor_key, project_key, round_key, supervisor_of, project_of, round_of, lists_of, has_supervisor, has_project, has_student, is_placed_before, is_closed, choices_in, quota_in, quota_with, is_offered_by, placed_in_project, placed_with_supervisor, IsFit, ProjectFits, ListFits, PlacementFits, are_aimed, are_numbered, only_last_open, is_distinct, bytes_self, same_bytes, found_key, holds_of_found, numbered_rise, each_found, is_whole, are_few, are_offered, are_rounds, is_list, is_placement, are_within}
 use Rattle.std.proofs.lemmas.List.Sums.{sum_by-cons}
-use Rattle.sqlite_keyed.proofs.ListLemmas.{all_both, all_from_test, all_weaker, test_from_all}
-use Rattle.spa.specs.declared.TheConstants.{MAX_SUPERVISORS, MAX_PROJECTS, MAX_STUDENTS, RANKS}
-use Rattle.row_model.specs.declared.table.Table.TheVariants.{Supervisor, Project, Student, Import, Placement}
-use Rattle.rolls.specs.declared.TheConstants.{MAX_ROUNDS, MAX_IMPORTS}
-use Rattle.rolls.specs.declared.entries.Supervisor.{Supervisor as SupervisorEntry}
-use Rattle.rolls.specs.declared.entries.Project.{Project as ProjectEntry}
-use Rattle.rolls.specs.declared.rounds.Round.{Round as RoundEntry}
-use Rattle.rolls.specs.declared.rounds.Listed.{Listed}
-use Rattle.rolls.specs.declared.rounds.Placement.{Placement as PlacementEntry}
-use Rattle.rolls.specs.Roll.{Key}
-use Rattle.rolls.specs.State.{State, supervisor_key, project_key, round_key, supervisor_of, project_of, round_of, lists_of, has_supervisor, has_project, has_student, is_placed_before, is_closed, choices_in, quota_in, quota_with, is_offered_by, placed_in_project, placed_with_supervisor}
-use Rattle.rolls.specs.Fit.{IsFit, ProjectFits, ListFits, PlacementFits, are_aimed, are_numbered, only_last_open, is_distinct}
-use Rattle.rolls.proofs.EntryChange.{bytes_self, same_bytes}
-use Rattle.rolls.proofs.Found.{found_key, holds_of_found}
 use Rattle.rolls.proofs.NoMoreThanFound.{few_placed}
-use Rattle.rolls.proofs.Shaped.{numbered_rise}
-use Rattle.change_laws.proofs.Found.{each_found}
-use Rattle.decoding.specs.Inside.Whole.{is_whole, are_few, are_offered, are_rounds, is_list, is_placement, are_within}
 use Rattle.decoding.proofs.Tests.{at_most, not_true, within}
 use Rattle.decoding.proofs.Decoded.{ProjectForm}
 use Rattle.decoding.proofs.Taken.{IsDrafted, HasChoices, lists_drafted}

@@ -1,20 +1,10 @@
 -- A test of all entries, made from the first one on.
 use Rattle.std.proofs.Common.{◌≡◌, ℕ, suc, ◌+◌, ◌<◌, ◌≤◌, Bool, true, false, List, ◌∷◌, length, drop, get_or, Some, slice_get, refl, sym, ap, subst, ◌∙◌, arith}
-use Rattle.std.specs.Prelude.{◌&&◌, nat_le}
-use Rattle.std.specs.List.{list_all}
+use Rattle.decoding.proofs.Common.{◌&&◌, nat_le, list_all, nat_tests, slice_get_read, State, supervisor_key, project_key, has_supervisor, placed_in_project, placed_with_supervisor, rises, MAX_SUPERVISORS, MAX_PROJECTS, MAX_STUDENTS, MAX_ROUNDS, MAX_IMPORTS, first_so, second_so, are_few, are_offered, all_from_test}
 use Rattle.std.proofs.Math.Seq.{drop-cons}
-use Rattle.std.proofs.lemmas.Bool.Decides.{nat_tests}
-use Rattle.std.proofs.lemmas.Option.{slice_get_read}
 use Rattle.rolls.specs.declared.entries.Supervisor.{Supervisor}
 use Rattle.rolls.specs.declared.entries.Project.{Project}
-use Rattle.rolls.specs.State.{State, supervisor_key, project_key, has_supervisor, placed_in_project, placed_with_supervisor}
-use Rattle.rolls.specs.Roll.{rises}
 use Rattle.rolls.specs.Counted.{AreRolls}
-use Rattle.spa.specs.declared.TheConstants.{MAX_SUPERVISORS, MAX_PROJECTS, MAX_STUDENTS}
-use Rattle.rolls.specs.declared.TheConstants.{MAX_ROUNDS, MAX_IMPORTS}
-use Rattle.std.specs.Cmp.{first_so, second_so}
-use Rattle.decoding.specs.Inside.Whole.{are_few, are_offered}
-use Rattle.sqlite_keyed.proofs.ListLemmas.{all_from_test}
 use Rattle.decoding.proofs.Tests.{at_most}
 
 -- a project has no more students than its quota

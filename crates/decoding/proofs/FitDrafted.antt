@@ -1,25 +1,7 @@
 -- The entries of a fit office are each of their forms; what a fit office lists is on its rolls.
 use Rattle.std.proofs.Common.{◌≡◌, ℕ, ◌-◌, ◌<◌, true, List, Option, Some, None, [], is_some, slice_get, refl, sym, ap, subst, ◌∙◌, arith}
-use Rattle.std.specs.Prelude.{IsTrue}
-use Rattle.std.specs.List.{AllByRecursion}
-use Rattle.std.specs.Option.{option_map_or}
-use Rattle.std.proofs.lemmas.Bool.{and_from}
-use Rattle.std.proofs.lemmas.Option.{slice_get_within}
-use Rattle.sqlite_keyed.proofs.ListLemmas.{all-slice_get, all_of, all_weaker}
-use Rattle.spa.specs.declared.TheConstants.{RANKS}
-use Rattle.spa.specs.Text.{is_code}
-use Rattle.row_model.specs.declared.table.Table.TheVariants.{Supervisor, Project, Student, Round, Import, RoundAim, Placement}
-use Rattle.rolls.specs.declared.entries.Supervisor.{Supervisor as SupervisorEntry}
-use Rattle.rolls.specs.declared.entries.Project.{Project as ProjectEntry}
-use Rattle.rolls.specs.declared.entries.Student.{Student as StudentEntry}
-use Rattle.rolls.specs.declared.rounds.Round.{Round as RoundEntry}
-use Rattle.rolls.specs.declared.rounds.Listed.{Listed}
-use Rattle.rolls.specs.Roll.{Key, find, rises}
-use Rattle.rolls.specs.State.{State, supervisor_key, project_key, student_key, round_key, list_key, has_project, has_student, round_of, lists_of, list_of, choices_in}
-use Rattle.rolls.specs.Fit.{IsFit, SupervisorFits, ProjectFits, StudentFits, ListFits, PlacementFits}
-use Rattle.rolls.proofs.Found.{found_key, holds_of_found}
-use Rattle.rolls.proofs.Shaped.{fit_shaped}
-use Rattle.change_laws.proofs.Found.{StandsIn, each_found}
+use Rattle.decoding.proofs.Common.{IsTrue, AllByRecursion, option_map_or, and_from, slice_get_within, all-slice_get, all_of, all_weaker, RANKS, is_code, Supervisor, Project, Student, Import, RoundAim, Placement, SupervisorEntry, ProjectEntry, StudentEntry, RoundEntry, Listed, Key, find, rises, State, supervisor_key, project_key, student_key, round_key, list_key, has_project, has_student, round_of, lists_of, list_of, choices_in, IsFit, SupervisorFits, ProjectFits, StudentFits, ListFits, PlacementFits, found_key, holds_of_found, fit_shaped, StandsIn, each_found}
+use Rattle.row_model.specs.declared.table.Table.TheVariants.{Round}
 use Rattle.decoding.proofs.Decoded.{ProjectForm, PlacementForm, AimForm}
 use Rattle.decoding.proofs.Taken.{HasChoices, IsDrafted, RoundForm}
 

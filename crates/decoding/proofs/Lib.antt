@@ -1,3 +1,4 @@
+mod Common
 pub mod Tests
 pub mod Decoded
 pub mod Stages

@@ -1,17 +1,6 @@
 -- Rows taken stage by stage are the same rows in another order, in which no row comes before one of an earlier stage.
 use Rattle.std.proofs.Common.{◌≡◌, ℕ, zero, suc, ◌+◌, ◌<◌, ◌≤◌, ◌==◌, Bool, true, false, cond, List, [], ◌∷◌, ◌++◌, refl, sym, ap, arith, subst}
-use Rattle.std.specs.Prelude.{nat_le, ⊤, IsPermutation}
-use Rattle.std.specs.List.{AllByRecursion}
-use Rattle.std.proofs.lemmas.Bool.Decides.{nat_tests}
-use Rattle.std.proofs.lemmas.List.Elements.{filter_passes, recursion_from_All}
-use Rattle.std.proofs.lemmas.List.Sorted.{IsPermutation-refl, IsPermutation-sym, IsPermutation-trans, IsPermutation-cons, IsPermutation-middle, IsPermutation-append_right}
-use Rattle.sqlite_keyed.proofs.ListLemmas.{IsPermutation-same, all_weaker}
-use Rattle.spa.specs.declared.TheConstants.{RANKS}
-use Rattle.row_model.specs.declared.cell.Cell.TheVariants.{Number}
-use Rattle.row_model.specs.declared.table.Table.{Table}
-use Rattle.row_model.specs.declared.table.Table.TheVariants.{Choice}
-use Rattle.row_model.specs.Rows.{Cells, RowOf}
-use Rattle.decoding.specs.Inside.Gathering.{place_in, stage_in, stage_of, at_stage, stages, staged}
+use Rattle.decoding.proofs.Common.{nat_le, ⊤, IsPermutation, AllByRecursion, nat_tests, filter_passes, recursion_from_All, IsPermutation-refl, IsPermutation-sym, IsPermutation-trans, IsPermutation-cons, IsPermutation-middle, IsPermutation-append_right, IsPermutation-same, all_weaker, RANKS, Number, Table, Choice, Cells, RowOf, place_in, stage_in, stage_of, at_stage, stages, staged}
 
 -- ---- the same rows
 

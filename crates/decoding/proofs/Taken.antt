@@ -1,38 +1,9 @@
 -- One row is taken in: of its table the rows that are held then are it and those that were held, in whatever order, and of each other
 -- table they stay. Entries stay in the order of their keys, each of its form.
 use Rattle.std.proofs.Common.{◌≡◌, ℕ, ◌+◌, ◌≤◌, ◌==◌, Bool, true, false, cond, suc, List, [], ◌∷◌, ◌++◌, map, length, Option, Some, None, is_some, refl, sym, ap, subst, ◌∙◌, arith, append_assoc}
-use Rattle.std.specs.Prelude.{◌&&◌, flat_map, IsPermutation}
-use Rattle.std.specs.List.{AllByRecursion}
-use Rattle.std.specs.Option.{option_map_or}
-use Rattle.std.proofs.lemmas.Bool.Decides.{nat_tests}
-use Rattle.std.proofs.lemmas.List.{length-append}
-use Rattle.std.proofs.lemmas.List.Sorted.{IsPermutation-refl, IsPermutation-sym, IsPermutation-trans, IsPermutation-cons, IsPermutation-map, IsPermutation-middle, IsPermutation-append_left}
-use Rattle.sqlite_keyed.proofs.ListLemmas.{IsPermutation-same, IsPermutation-flat_map}
-use Rattle.spa.specs.Text.{is_code}
-use Rattle.row_model.specs.declared.cell.Cell.TheVariants.{Text, Number}
-use Rattle.row_model.specs.declared.table.Table.{Table}
-use Rattle.row_model.specs.declared.table.Table.TheVariants.{Supervisor, Project, Student, Round, Import, RoundAim, Choice, Placement}
-use Rattle.row_model.specs.Rows.{Cells, of_table}
-use Rattle.rolls.specs.declared.entries.Supervisor.{Supervisor as SupervisorEntry}
-use Rattle.rolls.specs.declared.entries.Project.{Project as ProjectEntry}
-use Rattle.rolls.specs.declared.entries.Student.{Student as StudentEntry}
-use Rattle.rolls.specs.declared.rounds.Round.{Round as RoundEntry}
-use Rattle.rolls.specs.declared.rounds.Listed.{Listed}
-use Rattle.rolls.specs.declared.rounds.Placement.{Placement as PlacementEntry}
-use Rattle.rolls.specs.declared.rounds.RoundAim.{RoundAim as AimEntry}
-use Rattle.rolls.specs.declared.import.Import.{Import as ImportEntry}
-use Rattle.rolls.specs.Roll.{Key, find, has, put, take_out, rises}
-use Rattle.rolls.specs.State.{State, empty, supervisor_key, project_key, student_key, round_key, aim_key, list_key, placement_key, import_key, round_of, lists_of}
-use Rattle.rolls.specs.Fit.{SupervisorFits, StudentFits, ImportFits}
-use Rattle.rolls.specs.Rows.{supervisor_cells, project_cells, student_cells, round_cells, aim_cells, placement_cells, import_cells, choice_cells, choice_rows, list_rows, rows_of_round, rows_in}
-use Rattle.rolls.proofs.EntryChange.{all-put}
-use Rattle.rolls.proofs.Found.{found_key, holds_of_found}
-use Rattle.rolls.proofs.Places.{rises-put}
-use Rattle.rolls.proofs.Shaped.{IsShaped}
-use Rattle.change_laws.proofs.Keyed.{added_beside, found_beside, none_taken, put_beside}
+use Rattle.decoding.proofs.Common.{◌&&◌, flat_map, IsPermutation, AllByRecursion, option_map_or, nat_tests, length-append, IsPermutation-refl, IsPermutation-sym, IsPermutation-trans, IsPermutation-cons, IsPermutation-map, IsPermutation-middle, IsPermutation-append_left, IsPermutation-same, IsPermutation-flat_map, is_code, Text, Number, Table, Supervisor, Project, Student, Import, RoundAim, Choice, Placement, Cells, of_table, SupervisorEntry, ProjectEntry, StudentEntry, RoundEntry, Listed, PlacementEntry, AimEntry, ImportEntry, Key, find, has, put, take_out, rises, State, empty, supervisor_key, project_key, student_key, round_key, aim_key, list_key, placement_key, import_key, round_of, lists_of, SupervisorFits, StudentFits, ImportFits, supervisor_cells, project_cells, student_cells, round_cells, aim_cells, placement_cells, import_cells, choice_cells, choice_rows, list_rows, rows_of_round, rows_in, all-put, found_key, holds_of_found, rises-put, IsShaped, added_beside, found_beside, none_taken, put_beside, supervisor_in, project_in, student_in, round_in, aim_in, placement_in, import_in, after_cells, choices_among, with_choice, with_new, with_next}
+use Rattle.row_model.specs.declared.table.Table.TheVariants.{Round}
 use Rattle.change_laws.proofs.Same.{from_same, to_same}
-use Rattle.decoding.specs.Inside.Decoded.{supervisor_in, project_in, student_in, round_in, aim_in, placement_in, import_in}
-use Rattle.decoding.specs.Inside.Gathering.{after_cells, choices_among, with_choice, with_new, with_next}
 use Rattle.decoding.proofs.Tests.{has_form}
 use Rattle.decoding.proofs.Decoded.{IsDecoded, ProjectForm, PlacementForm, AimForm, supervisor_decoded, project_decoded, student_decoded, round_decoded, round_aim_decoded, placement_decoded, import_decoded}
 

@@ -2,41 +2,13 @@
 -- have different keys: so the row decodes to an entry of a new key. A choice is the next of its list, since those that come later are of no
 -- earlier stage.
 use Rattle.std.proofs.Common.{◌≡◌, ℕ, zero, suc, ◌+◌, ◌<◌, ◌≤◌, ◌==◌, Bool, true, false, cond, List, [], ◌∷◌, ◌++◌, map, filter, length, drop, Option, Some, None, is_some, slice_get, refl, sym, ap, subst, ◌∙◌, arith}
-use Rattle.std.specs.Prelude.{◌&&◌, ◌||◌, nat_le, flat_map, IsPermutation}
-use Rattle.std.specs.List.{AllByRecursion, list_any}
-use Rattle.std.specs.Option.{option_map_or, option_and_then}
-use Rattle.std.specs.Str.{bytes_eq}
-use Rattle.std.proofs.lemmas.Bool.{and_from, eq-eqb}
-use Rattle.std.proofs.lemmas.Bool.Decides.{nat_tests}
-use Rattle.std.proofs.lemmas.List.{length-append}
-use Rattle.std.proofs.lemmas.List.Elements.{All-from_recursion, recursion_from_All, filter-append}
+use Rattle.decoding.proofs.Common.{◌&&◌, ◌||◌, nat_le, flat_map, IsPermutation, AllByRecursion, list_any, option_map_or, option_and_then, bytes_eq, and_from, eq-eqb, nat_tests, length-append, All-from_recursion, recursion_from_All, filter-append, All-permutation, IsPermutation-sym, IsPermutation-trans, length_permutation, list_any-IsPermutation, slice_get_within, IsPermutation-filter, all-flat_map, all_map, all_weaker, any_from_none, none_counted, none_from_any, RANKS, is_code, Text, Number, Table, Supervisor, Project, Student, Import, RoundAim, Choice, Placement, Cells, RowOf, begins, key_in, keyed, of_table, same_cell, same_table, RoundEntry, Listed, IsFit, SupervisorFits, StudentFits, ImportFits, Key, find, has, put, same_key, AreRowsOf, supervisor_cells, project_cells, student_cells, round_cells, aim_cells, placement_cells, import_cells, choice_cells, choice_rows, list_rows, rows_of_round, rows_in, State, empty, supervisor_key, project_key, student_key, round_key, aim_key, list_key, placement_key, import_key, has_round, round_of, choices_in, bytes_self, fit_shaped, StandsIn, each_found, begins_both, begins_self, code_test, number_test, where_so, supervisor_in, project_in, student_in, round_in, aim_in, placement_in, import_in, after_cells, choices_among, gathered, place_in, stage_in, staged, with_choice, with_new, with_next}
 use Rattle.std.proofs.lemmas.List.Folds.{list_any-append}
-use Rattle.std.proofs.lemmas.List.Sorted.{All-permutation, IsPermutation-sym, IsPermutation-trans, length_permutation, list_any-IsPermutation}
-use Rattle.std.proofs.lemmas.Option.{slice_get_within}
-use Rattle.sqlite_keyed.proofs.ListLemmas.{IsPermutation-filter, all-flat_map, all_map, all_weaker, any_from_none, none_counted, none_from_any}
-use Rattle.spa.specs.declared.TheConstants.{RANKS}
-use Rattle.spa.specs.Text.{is_code}
-use Rattle.row_model.specs.declared.cell.Cell.TheVariants.{Text, Number}
-use Rattle.row_model.specs.declared.table.Table.{Table}
-use Rattle.row_model.specs.declared.table.Table.TheVariants.{Supervisor, Project, Student, Round, Import, RoundAim, Choice, Placement}
-use Rattle.row_model.specs.Rows.{Cells, RowOf, begins, key_in, keyed, of_table, same_cell, same_table}
+use Rattle.row_model.specs.declared.table.Table.TheVariants.{Round}
 use Rattle.row_model.proofs.Tables.{same_table_is}
-use Rattle.rolls.specs.declared.rounds.Round.{Round as RoundEntry}
-use Rattle.rolls.specs.declared.rounds.Listed.{Listed}
-use Rattle.rolls.specs.Fit.{IsFit, SupervisorFits, StudentFits, ImportFits}
-use Rattle.rolls.specs.Roll.{Key, find, has, put, same_key}
-use Rattle.rolls.specs.Rows.{AreRowsOf, supervisor_cells, project_cells, student_cells, round_cells, aim_cells, placement_cells, import_cells, choice_cells, choice_rows, list_rows, rows_of_round, rows_in}
-use Rattle.rolls.specs.State.{State, empty, supervisor_key, project_key, student_key, round_key, aim_key, list_key, placement_key, import_key, has_round, round_of, choices_in}
-use Rattle.rolls.proofs.EntryChange.{bytes_self}
 use Rattle.change_laws.specs.Apart.{AreApart}
-use Rattle.rolls.proofs.Shaped.{fit_shaped}
 use Rattle.change_laws.proofs.Apart.{rows_apart}
 use Rattle.change_laws.proofs.Determine.{shaped_determine}
-use Rattle.change_laws.proofs.Found.{StandsIn, each_found}
-use Rattle.change_laws.proofs.Keyed.{begins_both, begins_self}
-use Rattle.change_laws.proofs.KeyTests.{code_test, number_test}
-use Rattle.decoding.specs.Inside.Decoded.{where_so, supervisor_in, project_in, student_in, round_in, aim_in, placement_in, import_in}
-use Rattle.decoding.specs.Inside.Gathering.{after_cells, choices_among, gathered, place_in, stage_in, staged, with_choice, with_new, with_next}
 use Rattle.decoding.proofs.Tests.{within, not_true}
 use Rattle.decoding.proofs.Decoded.{ProjectForm, PlacementForm, AimForm, supervisor_decoded, project_decoded, student_decoded, round_decoded, round_aim_decoded, placement_decoded, import_decoded, supervisor_read, project_read, student_read, round_read, round_aim_read, placement_read, import_read}
 use Rattle.decoding.proofs.Taken.{AreOf, IsDrafted, RoundForm, drafted_shaped, empty_drafted, taken}

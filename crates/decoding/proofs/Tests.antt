@@ -1,8 +1,6 @@
 -- Tests, and what they say.
 use Rattle.std.proofs.Common.{◌≡◌, ℕ, ◌≤◌, Bool, true, false, not, Some, refl, arith}
-use Rattle.std.specs.Prelude.{nat_le}
-use Rattle.std.proofs.lemmas.Bool.Decides.{nat_tests}
-use Rattle.decoding.specs.Inside.Decoded.{where_so}
+use Rattle.decoding.proofs.Common.{nat_le, nat_tests, where_so}
 
 pub within : (n limit : ℕ) → n ≤ limit → nat_le n limit ≡ true
 within n limit h = grind (arith, nat_tests)

@@ -1,16 +1,9 @@
 -- What a crash leaves is opened as one of the offices that its tables may stand for.
 use Rattle.std.proofs.Common.{◌≡◌, ◌⊎◌, inl, inr, List, ◌∷◌, sym, subst}
-use Rattle.sqlite.specs.State.{Survives}
-use Rattle.sqlite.specs.Held.{state}
+use Rattle.desk.proofs.Common.{Survives, state, Request, State, MayRecoverTo, latest, in_latest, CarriesOut, StandsForOne}
 use Rattle.sqlite_trees.specs.declared.store.Store.{Ghosts}
-use Rattle.rolls.specs.declared.request.Request.{Request}
-use Rattle.rolls.specs.State.{State}
-use Rattle.tables.specs.Steps.{MayRecoverTo}
-use Rattle.store.specs.Editions.{latest}
 use Rattle.store.specs.Laws.{OpensAgain}
-use Rattle.store.proofs.Standing.{in_latest}
 use Rattle.desk.specs.DeskState.{DeskState}
-use Rattle.desk.specs.Keeping.{CarriesOut, StandsForOne}
 use Rattle.desk.specs.Laws.{IsAtRest, IsOneOf, IsOpenedAfter, LeavesOneOf}
 use Rattle.desk.proofs.SavedRows.{was_clean}
 

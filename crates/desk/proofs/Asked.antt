@@ -1,13 +1,6 @@
 -- What is owed of a request that is refused, and of one that touches no table.
 use Rattle.std.proofs.Common.{◌≡◌, ◌≢◌, false, Option, Some, IfSome, Result, Ok, Err, OnOk, IsErr, refl, sym, ap, subst, ◌∙◌}
-use Rattle.sqlite.specs.State.{State as Seen}
-use Rattle.rolls.specs.declared.refusal.Refusal.{Refusal}
-use Rattle.rolls.specs.declared.refusal.Refusal.TheVariants.{Storage}
-use Rattle.rolls.specs.declared.request.Reply.{Reply}
-use Rattle.rolls.specs.declared.request.Request.{Request}
-use Rattle.rolls.specs.Reads.{changes_nothing}
-use Rattle.rolls.specs.Refusing.{refusal_of}
-use Rattle.rolls.specs.State.{State}
+use Rattle.desk.proofs.Common.{Seen, Refusal, Storage, Reply, Request, changes_nothing, refusal_of, State}
 use Rattle.desk.specs.Saved.{IsSaved}
 use Rattle.desk.proofs.NoStorage.{unread_named}
 use Rattle.desk.proofs.Runs.{crash_none}

@@ -1,3 +1,4 @@
+mod Common
 pub mod Refusals
 mod NoStorage
 pub mod SavedRows

@@ -1,25 +1,16 @@
 -- No refusal by which the office refuses a request says anything of the storage.
 use Rattle.std.proofs.Common.{◌≡◌, ℕ, suc, List, [], ◌∷◌, ◌++◌, Bool, true, false, not, Option, Some, None, Result, Ok, Err, IfErr, ◌⊎◌, inl, inr, refl, sym, ap, ◌∙◌}
-use Rattle.std.specs.Prelude.{if◌then◌else◌}
+use Rattle.desk.proofs.Common.{if◌then◌else◌, Refusal, Plain, PutList, Request, State, has_import, first, choice_tests, open_tests, round_tests, import_tests, plain_refusal, refusal_of, after_plain, refusal, import_as_read, layers}
 use Rattle.std.specs.List.{list_all}
 use Rattle.std.proofs.lemmas.Bool.{and_parts}
 use Rattle.rolls.specs.declared.import.ImportKind.{ImportKind}
-use Rattle.rolls.specs.declared.refusal.Refusal.{Refusal}
 use Rattle.rolls.specs.declared.refusal.Refusal.TheVariants as no
-use Rattle.rolls.specs.declared.request.Plain.{Plain}
-use Rattle.rolls.specs.declared.request.Plain.TheVariants.{PutList}
-use Rattle.rolls.specs.declared.request.Request.{Request}
 use Rattle.rolls.specs.declared.request.Request.TheVariants as request
-use Rattle.rolls.specs.State.{State, has_import}
 use Rattle.rolls.specs.Meaning.{meaning}
-use Rattle.rolls.specs.Refusing.{first, choice_tests, open_tests, round_tests, import_tests, plain_refusal, refusal_of}
 use Rattle.rolls.specs.Importing.{or_else, at_record, rows_refusal, text_refusal}
-use Rattle.rolls.specs.Stepping.{after_plain}
-use Rattle.rolls.specs.Run.{refusal}
 use Rattle.imports.specs.declared.fault.ImportFault.{ImportFault}
 use Rattle.imports.specs.declared.fault.ImportFault.TheVariants.{Memory, Header, Fields}
 use Rattle.imports.specs.Requests.{requests_of}
-use Rattle.outside.specs.Layers.{import_as_read, layers}
 
 abbrev is_storage : Refusal → Bool
 is_storage no.Storage = true

@@ -1,19 +1,7 @@
 -- A run, request after request, and what a crash leaves of it.
 use Rattle.std.proofs.Common.{◌≡◌, Option, List, [], ◌∷◌, ◌++◌, Result, IsTrue, inl, refl, sym, ap, subst, ◌∙◌, arith, append-nil}
 use Rattle.std.proofs.lemmas.List.{append_assoc}
-use Rattle.sqlite.specs.State.{State as Seen, HasCleanDisk, Survives}
-use Rattle.sqlite.specs.Tree.{Trees}
-use Rattle.sqlite.proofs.StateLemmas.{survives_then}
-use Rattle.tables.specs.Steps.{MayRecoverTo}
-use Rattle.rolls.specs.declared.request.Reply.{Reply}
-use Rattle.rolls.specs.declared.refusal.Refusal.{Refusal}
-use Rattle.rolls.specs.declared.request.Request.{Request}
-use Rattle.rolls.specs.State.{State}
-use Rattle.rolls.specs.Run.{Run, Step}
-use Rattle.outside.specs.Layers.{layers}
-use Rattle.solver.specs.SessionState.{SessionState}
-use Rattle.desk.specs.Keeping.{Begins, CarriesOut, StandsForOne}
-use Rattle.desk.specs.Sessions.{AnswersAtOnce, GoesOn, RunsOn}
+use Rattle.desk.proofs.Common.{Seen, HasCleanDisk, Survives, Trees, survives_then, MayRecoverTo, Reply, Refusal, Request, State, Run, Step, layers, SessionState, Begins, CarriesOut, StandsForOne, AnswersAtOnce, GoesOn, RunsOn}
 
 -- all requests but the rest are answered by a run
 pub record HasRun (office : State) (all rest : List Request) (answers : List (Result Reply Refusal)) (now : State) : Type 0 where

@@ -1,28 +1,12 @@
 -- Changes that transform the rows of one office into those of the next, saved: the tables stand for the next one.
 use Rattle.std.proofs.Common.{◌≡◌, IsTrue, inl, inr, List, None, refl, sym, subst, arith}
 use Rattle.sqlite.specs.Effect.{Database}
-use Rattle.sqlite.specs.State.{State as Seen, HasCleanDisk, Survives}
-use Rattle.sqlite.proofs.StateLemmas.{survives_weaker}
-use Rattle.sqlite.specs.Tree.{Trees}
-use Rattle.tables.specs.Steps.{HasSaved, IsKept, MayRecoverTo}
-use Rattle.row_model.specs.declared.row.Change.{Change}
-use Rattle.rolls.specs.declared.request.Done.{Done}
-use Rattle.rolls.specs.State.{State}
+use Rattle.desk.proofs.Common.{Seen, HasCleanDisk, Survives, survives_weaker, Trees, HasSaved, IsKept, MayRecoverTo, Change, Done, State, rows_in, Transforms, Request, IsFit, Makes, refusal, layers, Refusal, StoreFault, latest, number_of, rolls_of, hold_same, CarriesOut, Keeps, StandsForOne}
 use Rattle.row_model.specs.Changes.{after_changes}
-use Rattle.rolls.specs.Rows.{rows_in, Transforms}
-use Rattle.rolls.specs.declared.request.Request.{Request}
-use Rattle.rolls.specs.Fit.{IsFit}
-use Rattle.rolls.specs.Run.{Makes, refusal}
-use Rattle.outside.specs.Layers.{layers}
 use Rattle.store.specs.Tables.{StandsFor, Opens}
-use Rattle.rolls.specs.declared.refusal.Refusal.{Refusal}
 use Rattle.rolls.specs.declared.refusal.Refusal.TheVariants as no
-use Rattle.store.specs.declared.fault.StoreFault.{StoreFault}
 use Rattle.store.specs.declared.fault.StoreFault.TheVariants as store
-use Rattle.store.specs.Editions.{latest, number_of, rolls_of}
 use Rattle.store.specs.Saving.{Saves}
-use Rattle.store.proofs.Standing.{hold_same}
-use Rattle.desk.specs.Keeping.{CarriesOut, Keeps, StandsForOne}
 
 -- what is saved stands for the next office
 pub stands_after : (changes : List Change) (office next : State) (old new : Database) → Transforms changes office next → Saves changes old new → StandsFor old office → StandsFor new next

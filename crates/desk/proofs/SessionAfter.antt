@@ -1,23 +1,8 @@
 -- What a request that was carried out makes of the session.
 use Rattle.std.proofs.Common.{◌≡◌, ℕ, List, Bool, true, false, Option, Some, None, IfSome, refl, sym, subst}
-use Rattle.std.specs.Prelude.{if◌then◌else◌}
-use Rattle.rolls.specs.State.{State, last_round, has_list}
-use Rattle.rolls.specs.Fit.{IsFit}
-use Rattle.rolls.specs.declared.request.Plain.{Plain}
-use Rattle.rolls.specs.declared.request.Plain.TheVariants.{PutSupervisor, PutProject, PutStudent, OpenRound, PutList, DropList, ReopenRound}
-use Rattle.rolls.specs.declared.request.Reply.{Reply}
-use Rattle.rolls.specs.declared.request.Request.{Request}
+use Rattle.desk.proofs.Common.{if◌then◌else◌, State, last_round, has_list, IsFit, Plain, PutSupervisor, PutProject, PutStudent, OpenRound, PutList, DropList, ReopenRound, Reply, Request, is_read, changes_nothing, plain_refusal, refusal_of, after_plain, Makes, SessionState, layers, MayJoin, plain_effect, effect_of, MirrorsRound, MayMeet}
 use Rattle.rolls.specs.declared.request.Request.TheVariants as request
-use Rattle.rolls.specs.Reads.{is_read, changes_nothing}
-use Rattle.rolls.specs.Refusing.{plain_refusal, refusal_of}
-use Rattle.rolls.specs.Stepping.{after_plain}
-use Rattle.rolls.specs.Run.{Makes}
-use Rattle.solver.specs.SessionState.{SessionState}
-use Rattle.outside.specs.Layers.{layers}
-use Rattle.outside.specs.SessionRounds.{MayJoin}
 use Rattle.desk.specs.declared.sessions.SessionEffect.TheVariants.{Keep, Extend, End}
-use Rattle.desk.specs.Sessions.{plain_effect, effect_of, MirrorsRound}
-use Rattle.desk.specs.Inside.Sessions.{MayMeet}
 
 -- ---- a change
 

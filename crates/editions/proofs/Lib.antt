@@ -1,3 +1,4 @@
+mod Common
 pub mod OtherNames
 pub mod MigratingRows
 pub mod MigratingChanges

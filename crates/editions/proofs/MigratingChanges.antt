@@ -1,28 +1,11 @@
 -- The changes that migrate an edition: old rows go by their keys, and come in the tables that took their tables' place, the aims of greedy
 -- rounds next to them. A row that goes is one of the edition's, so none is left in an old table.
 use Rattle.std.proofs.Common.{◌≡◌, Bool, true, false, not, cond, List, [], ◌∷◌, ◌++◌, map, filter, refl, sym, ap, subst, ◌∙◌, append-nil}
-use Rattle.std.specs.Prelude.{IsPermutation, ◌&&◌, ◌||◌}
-use Rattle.std.specs.List.{list_any, AllByRecursion}
-use Rattle.std.proofs.lemmas.Bool.{and_from, or_left, or_right}
-use Rattle.std.proofs.lemmas.List.Elements.{All-from_recursion, recursion_from_All, filter_passes}
-use Rattle.std.proofs.lemmas.List.Sorted.{IsPermutation-refl, IsPermutation-trans, IsPermutation-map, IsPermutation-middle, All-permutation}
-use Rattle.sqlite_keyed.proofs.ListLemmas.{filter-filter, filter_none, all_weaker, all_both, all-filter}
-use Rattle.row_model.specs.declared.table.Table.{Table}
-use Rattle.row_model.specs.declared.table.Table.TheVariants.{Edition as EditionTable, Round, RoundAim}
-use Rattle.row_model.specs.declared.row.Change.TheVariants.{Add}
-use Rattle.row_model.specs.Rows.{AllRows, SameRows, Cells, RowOf, begins, key_in, keyed, of_table, same_table}
+use Rattle.editions.proofs.Common.{IsPermutation, ◌&&◌, ◌||◌, list_any, AllByRecursion, and_from, or_left, or_right, All-from_recursion, recursion_from_All, filter_passes, IsPermutation-refl, IsPermutation-trans, IsPermutation-map, IsPermutation-middle, All-permutation, filter-filter, filter_none, all_weaker, all_both, all-filter, Table, EditionTable, Round, RoundAim, Add, AllRows, SameRows, Cells, RowOf, begins, key_in, keyed, of_table, same_table, same_table_is, same_table_self, IsFit, aim_cells, rows_in, State, AreFree, after_both, fresh_both, change_elsewhere, nothing_transforms, from_same, to_same, First, Second, Third, ChangesMigrate, aim_of_round, aims_of, is_old, is_old_table, removal_of, renamed, renamed_row, renaming_changes, rows_in_edition}
 use Rattle.row_model.specs.Changes.{IsFresh, AreFresh, TransformsRows, after_change, after_changes}
-use Rattle.row_model.proofs.Tables.{same_table_is, same_table_self}
-use Rattle.rolls.specs.Fit.{IsFit}
-use Rattle.rolls.specs.Rows.{aim_cells, rows_in}
-use Rattle.rolls.specs.State.{State}
 use Rattle.change_laws.proofs.Keyed.{begins_self}
-use Rattle.change_laws.proofs.Changes.{AreFree, after_both, fresh_both, change_elsewhere, nothing_transforms}
 use Rattle.change_laws.proofs.Apart.{rows_apart, apart_free}
-use Rattle.change_laws.proofs.Same.{from_same, to_same}
 use Rattle.editions.specs.declared.Edition.{Edition}
-use Rattle.editions.specs.declared.Edition.TheVariants.{First, Second, Third}
-use Rattle.editions.specs.Editions.{ChangesMigrate, aim_of_round, aims_of, is_old, is_old_table, removal_of, renamed, renamed_row, renaming_changes, rows_in_edition}
 use Rattle.editions.proofs.OtherNames.{is_in, rows_both, renamed_twice, swapped, aims_come, no_others, greedy_rows, first_else}
 
 -- rows that are added stand next to those that were there

@@ -1,28 +1,10 @@
 -- The rows that an office has in an edition, with tables renamed, and in the first one with the aims of its rounds, are its rows in the
 -- latest.
 use Rattle.std.proofs.Common.{◌≡◌, false, drop, List, [], ◌∷◌, ◌++◌, map, Option, Some, None, refl, sym, ap, ◌∙◌, append-nil}
-use Rattle.std.specs.Prelude.{IsPermutation}
-use Rattle.std.specs.List.{AllByRecursion}
-use Rattle.std.specs.Option.{option_map_or}
-use Rattle.std.proofs.lemmas.List.Elements.{All-from_recursion, recursion_from_All}
-use Rattle.std.proofs.lemmas.List.Sorted.{IsPermutation-map, All-permutation}
-use Rattle.sqlite_keyed.proofs.ListLemmas.{IsPermutation-same, all-map, all_unmap, all_weaker}
+use Rattle.editions.proofs.Common.{IsPermutation, AllByRecursion, option_map_or, All-from_recursion, recursion_from_All, IsPermutation-map, All-permutation, IsPermutation-same, all-map, all_unmap, all_weaker, Greedy, Generous, Number, Table, Round, RoundAim, Cells, RowOf, begins, of_table, same_table, AimEntry, AreRowsOf, aim_cells, rows_in, State, aim_key, IsFit, by_table, from_same, to_same, First, Second, Third, AreRowsIn, HaveNoLater, RowsMigrate, aim_of_round, aims_of, renamed, renamed_row, rows_in_edition}
 use Rattle.spa.specs.declared.aim.Aim.{Aim}
-use Rattle.spa.specs.declared.aim.Aim.TheVariants.{Greedy, Generous}
-use Rattle.row_model.specs.declared.cell.Cell.TheVariants.{Number}
-use Rattle.row_model.specs.declared.table.Table.{Table}
-use Rattle.row_model.specs.declared.table.Table.TheVariants.{Round, RoundAim}
-use Rattle.row_model.specs.Rows.{Cells, RowOf, begins, of_table, same_table}
-use Rattle.rolls.specs.declared.rounds.RoundAim.{RoundAim as AimEntry}
 use Rattle.rolls.specs.Roll.{find}
-use Rattle.rolls.specs.Rows.{AreRowsOf, aim_cells, rows_in}
-use Rattle.rolls.specs.State.{State, aim_key}
-use Rattle.rolls.specs.Fit.{IsFit}
 use Rattle.rolls.proofs.Found.{holds_of_found}
-use Rattle.change_laws.proofs.Changes.{by_table}
-use Rattle.change_laws.proofs.Same.{from_same, to_same}
-use Rattle.editions.specs.declared.Edition.TheVariants.{First, Second, Third}
-use Rattle.editions.specs.Editions.{AreRowsIn, HaveNoLater, RowsMigrate, aim_of_round, aims_of, renamed, renamed_row, rows_in_edition}
 use Rattle.editions.proofs.OtherNames.{rows_both, renamed_twice, swapped, aims_come, no_others, greedy_rows, first_else}
 
 -- ---- the second edition

@@ -1,28 +1,11 @@
 -- Rows of all tables by their tables: those whose tables are renamed, and the aims that rounds come with.
 use Rattle.std.proofs.Common.{◌≡◌, Bool, true, false, cond, List, [], ◌∷◌, ◌++◌, map, filter, Option, refl, sym, ap, subst, ◌∙◌}
-use Rattle.std.specs.Prelude.{◌==◌}
-use Rattle.std.specs.List.{AllByRecursion}
-use Rattle.std.specs.Option.{option_map_or}
+use Rattle.editions.proofs.Common.{◌==◌, AllByRecursion, option_map_or, eqb-true, filter-append, map-map, filter-map, all_weaker, Greedy, Number, Table, Round, RoundAim, Choice, Cells, RowOf, of_table, same_table, same_table_is, same_table_self, AimEntry, aim_cells, round_cells, flag, is_generous, State, aim_key, IsFit, are_aimed, First, Second, Allows, aim_of_round, aim_row, aims_of, renamed, renamed_row, rows_in_edition}
 use Rattle.std.specs.Cmp.{first_so, second_so}
-use Rattle.std.proofs.lemmas.Bool.{eqb-true}
 use Rattle.std.proofs.lemmas.List.{map-append}
-use Rattle.std.proofs.lemmas.List.Elements.{filter-append}
-use Rattle.sqlite_keyed.proofs.ListLemmas.{map-map, filter-map, all_weaker}
-use Rattle.spa.specs.declared.aim.Aim.TheVariants.{Greedy}
-use Rattle.row_model.specs.declared.cell.Cell.TheVariants.{Number}
-use Rattle.row_model.specs.declared.table.Table.{Table}
-use Rattle.row_model.specs.declared.table.Table.TheVariants.{Round, RoundAim, Choice}
-use Rattle.row_model.specs.Rows.{Cells, RowOf, of_table, same_table}
-use Rattle.row_model.proofs.Tables.{same_table_is, same_table_self}
 use Rattle.rolls.specs.declared.rounds.Round.{Round as RoundEntry}
-use Rattle.rolls.specs.declared.rounds.RoundAim.{RoundAim as AimEntry}
-use Rattle.rolls.specs.Rows.{aim_cells, round_cells, flag, is_generous}
-use Rattle.rolls.specs.State.{State, aim_key}
-use Rattle.rolls.specs.Fit.{IsFit, are_aimed}
 use Rattle.rolls.proofs.Shaped.{fit_shaped}
 use Rattle.change_laws.proofs.Found.{StandsIn, each_found}
-use Rattle.editions.specs.declared.Edition.TheVariants.{First, Second}
-use Rattle.editions.specs.Editions.{Allows, aim_of_round, aim_row, aims_of, renamed, renamed_row, rows_in_edition}
 
 -- ---- rows of all tables
 

@@ -1,8 +1,6 @@
 -- The text of a round in which nobody has a place, and nothing a price, is that of its aim and instance.
 use Rattle.std.proofs.Common.{◌≡◌, ℕ, List, [], ◌∷◌, ◌++◌, map, codes, Option, None, refl}
-use Rattle.spa.specs.declared.aim.Aim.{Aim}
-use Rattle.spa.specs.Instance.{Instance, Student, supervisor_codes, project_codes, student_codes}
-use Rattle.intake.specs.Lines.{Row, line, ended, aim_rows, supervisor_row, project_row, student_row, pair_rows, price_rows, instance_text, round_text}
+use Rattle.intake.proofs.Common.{Aim, Instance, Student, supervisor_codes, project_codes, student_codes, Row, line, ended, aim_rows, supervisor_row, project_row, student_row, pair_rows, price_rows, instance_text, round_text}
 
 -- nobody has a place
 pub no_pairs : {X : Type 0} (es : List Student) (xs : List X) → pair_rows es (map (λ x. None) xs) ≡ []

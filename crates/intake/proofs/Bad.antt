@@ -1,13 +1,6 @@
 -- The first line up to which lines begin no round text.
 use Rattle.std.proofs.Common.{◌≡◌, ℕ, ◌+◌, ◌<◌, ◌≤◌, List, [], ◌∷◌, ◌++◌, length, map, take, drop, get_or, refl, sym, ap, ◌∙◌, subst, arith}
-use Rattle.std.specs.Prelude.{◌==◌}
-use Rattle.std.proofs.lemmas.List.{take_more, take_at, take_all, take-append-le, take-append-drop, length-append, get_or_at, get_or-map}
-use denote.Ref.{Bor}
-use Rattle.std.proofs.lemmas.List.Splits.{length-slice_split}
-use Rattle.intake.specs.Parts.{Parts, IsRoundParts}
-use Rattle.intake.specs.Lines.{sections, round_lines, round_text, ended}
-use Rattle.intake.specs.Reading.{pieces, BeginsLines, IsFirstBadLine}
-use Rattle.intake.specs.Inside.PartialRound.{IsDraft, IsWhole}
+use Rattle.intake.proofs.Common.{◌==◌, take_more, take_at, take_all, take-append-le, take-append-drop, length-append, get_or_at, get_or-map, Bor, length-slice_split, Parts, IsRoundParts, sections, round_lines, round_text, ended, pieces, BeginsLines, IsFirstBadLine, IsDraft, IsWhole}
 use Rattle.intake.proofs.Ends.{draft_begins}
 use Rattle.intake.proofs.Goes.{parts_plain}
 use Rattle.intake.proofs.Pieces.{pieces_back, text_back}

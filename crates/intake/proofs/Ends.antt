@@ -1,26 +1,15 @@
 -- A draft may be completed, and a complete one is the parts of its text.
 use Rattle.std.proofs.Common.{◌≡◌, ℕ, zero, suc, ◌+◌, ◌-◌, ◌<◌, ◌≤◌, ℤ, List, [], ◌∷◌, ◌++◌, length, map, flat_map, get_or, replicate, codes, Option, Some, None, All, Contains, slice_get, refl, sym, ap, ◌∙◌, subst, arith}
-use Rattle.std.specs.List.{AllZip}
-use Rattle.std.proofs.lemmas.List.{length-map}
-use Rattle.std.proofs.lemmas.List.Elements.{All-map}
-use Rattle.spa.specs.declared.aim.Aim.{Aim}
-use Rattle.spa.specs.Instance.{Instance, Supervisor, Project, Student, supervisor_codes, project_codes, student_codes}
+use Rattle.intake.proofs.Common.{AllZip, length-map, All-map, Aim, Instance, Supervisor, Project, Student, supervisor_codes, project_codes, student_codes, IsFirstRepeated, IsSoundList, IsFirstUnknown, IsListFault, IsFirstListFault, IsFirstInstanceFault, Parts, Rise, IsPlace, ArePricesOrNone, IsRoundParts, Row, choice_code, line, round_lines, section_lines, priced, price_section, pair_rows, aim_rows, supervisor_row, project_row, student_row, BeginsLines, IsDraft, IsWhole, ArePlaces, ArePricesUpTo, NoneOrAll, AreComplete, ArePricedUpTo, with_prices}
 use Rattle.spa.specs.declared.fault.Roll.TheVariants.{Supervisors, Projects, Students}
 use Rattle.spa.specs.declared.fault.InstanceFault.{InstanceFault}
 use Rattle.spa.specs.declared.fault.InstanceFault.TheVariants.{Memory, Limit, RepeatedCode, UnknownSupervisor, ListLength, UnknownProject, RepeatedProject}
-use Rattle.spa.specs.Codes.{IsFirstRepeated}
-use Rattle.spa.specs.Made.{IsSoundList, IsFirstUnknown, IsListFault, IsFirstListFault, IsFirstInstanceFault}
 use Rattle.intake.proofs.Found.{slice_get_at}
 use Rattle.intake.proofs.PairLine.{one_place, all_found}
 use Rattle.intake.proofs.Prices.{filled, filled_all, filled_prices, filled_rows, changed_complete, priced_changed, some_turn}
 use Rattle.intake.proofs.Rolls.{within_get}
 use Rattle.intake.proofs.Sections.{letter_at}
 use Rattle.intake.proofs.Steps.{prices_step}
-use Rattle.intake.specs.Parts.{Parts, Rise, IsPlace, ArePricesOrNone, IsRoundParts}
-use Rattle.intake.specs.Lines.{Row, choice_code, line, round_lines, section_lines, priced, price_section, pair_rows, aim_rows, supervisor_row, project_row, student_row}
-use Rattle.intake.specs.Reading.{BeginsLines}
-use Rattle.intake.specs.Inside.PartialRound.{IsDraft, IsWhole, ArePlaces, ArePricesUpTo, NoneOrAll, AreComplete}
-use Rattle.intake.specs.Inside.Entries.{ArePricedUpTo, with_prices}
 
 -- nobody of the rest has a place
 pub no_more_pairs : (es : List Student) (ks : List (Option ℕ)) (n : ℕ) → pair_rows es (ks ++ replicate n None) ≡ pair_rows es ks

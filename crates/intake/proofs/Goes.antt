@@ -1,21 +1,6 @@
 -- A line that goes on is one that the draft takes.
 use Rattle.std.proofs.Common.{◌≡◌, ℕ, suc, ◌+◌, ◌<◌, ◌≤◌, ◌^◌, ◌%◌, ℤ, pos, negsuc, Bool, true, false, List, [], ◌∷◌, ◌++◌, map, get_or, codes, decimal, All, refl, sym, ap, ◌∙◌, arith, append_assoc}
-use Rattle.std.specs.Fmt.{signed_decimal}
-use Rattle.std.specs.List.{list_all}
-use Rattle.std.specs.Prelude.{◌==◌, nat_le}
-use Rattle.std.specs.Cmp.{first_so, second_so}
-use Rattle.std.proofs.lemmas.Bool.{ne_eqb}
-use Rattle.std.proofs.lemmas.Bool.Decides.{nat_tests}
-use Rattle.std.proofs.lemmas.Fmt.{decimal_by_steps}
-use Rattle.std.proofs.lemmas.List.{map-append}
-use Rattle.std.proofs.lemmas.List.Elements.{All-nil, All-cons, All-push}
-use Rattle.spa.specs.Text.{is_code, is_code_byte}
-use Rattle.verdict.specs.Rows.{InRange}
-use Rattle.intake.specs.Parts.{Parts, IsPrice, IsRoundInstance, IsRoundParts}
-use Rattle.intake.specs.Lines.{Row, Section, line, sections, round_lines}
-use Rattle.intake.specs.Reading.{BeginsLines}
-use Rattle.intake.specs.Inside.PartialRound.{IsDraft, IsField, IsFree}
-use Rattle.spa.proofs.Texts.{code_bytes}
+use Rattle.intake.proofs.Common.{signed_decimal, list_all, ◌==◌, nat_le, first_so, second_so, ne_eqb, nat_tests, decimal_by_steps, map-append, All-nil, All-cons, All-push, is_code, is_code_byte, InRange, Parts, IsPrice, IsRoundInstance, IsRoundParts, Row, Section, line, sections, round_lines, BeginsLines, IsDraft, IsField, IsFree, code_bytes}
 use Rattle.intake.proofs.Widths.{Said, OfRows, OfLetters, widths, rows_said}
 use Rattle.intake.proofs.Numbers.{small}
 use Rattle.intake.proofs.Sections.{fields_of, fields_back, full, Plain, sections_back, Next, next_section, SameRows, same_rows}

@@ -1,3 +1,4 @@
+mod Common
 mod RowInDraft
 pub mod Alone
 mod Bad

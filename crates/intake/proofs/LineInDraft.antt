@@ -1,14 +1,6 @@
 -- What a line that was tried adds to a draft.
 use Rattle.std.proofs.Common.{◌≡◌, ℕ, Bool, true, false, All, ◌==◌, refl, List, [], map, ◌∷◌, ◌++◌, sym, ap, subst, ◌∙◌}
-use denote.Ref.{Bor}
-use Rattle.std.proofs.lemmas.List.Elements.{All-nil, All-cons, All-tail}
-use Rattle.intake.specs.declared.section.SectionName.{SectionName}
-use Rattle.intake.specs.declared.section.SectionName.TheVariants.{Aims, Supervisors, Projects, Students, Pairs, StudentPrices, ProjectPrices, SupervisorPrices}
-use Rattle.intake.specs.Parts.{Parts}
-use Rattle.intake.specs.Lines.{Row, line, round_lines}
-use Rattle.intake.specs.Reading.{BeginsLines}
-use Rattle.intake.specs.Inside.PartialRound.{IsDraft, IsField}
-use Rattle.intake.specs.Inside.Entries.{AddsEntry, AddsLine, MayComeNext, letter_of, line_of}
+use Rattle.intake.proofs.Common.{Bor, All-nil, All-cons, All-tail, SectionName, Aims, Supervisors, Projects, Students, Pairs, StudentPrices, ProjectPrices, SupervisorPrices, Parts, Row, line, round_lines, BeginsLines, IsDraft, IsField, AddsEntry, AddsLine, MayComeNext, letter_of, line_of}
 use Rattle.intake.proofs.Goes.{goes_on}
 use Rattle.intake.proofs.Takes.{only, other_only}
 use Rattle.intake.proofs.Steps.{step}

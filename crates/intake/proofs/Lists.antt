@@ -1,16 +1,9 @@
 -- A list of projects, read field by field.
 use Rattle.std.proofs.Common.{◌≡◌, ◌≢◌, ℕ, zero, suc, ◌+◌, ◌<◌, Bool, true, false, not, List, [], ◌∷◌, ◌++◌, length, map, get_or, take, slice_get, Option, Some, None, refl, sym, ap, ◌∙◌, arith}
-use denote.Ref.{Bor}
-use Rattle.std.proofs.lemmas.List.{take_more, length-take-le, length-map, map-append}
-use Rattle.std.specs.Str.{bytes_eq}
-use Rattle.std.proofs.lemmas.Bool.Decides.{not_from_Decides}
-use Rattle.std.proofs.lemmas.Slice.Eq.{bytes_eq-Decides}
-use Rattle.spa.specs.Inside.Codes.{Finds}
-use Rattle.spa.specs.Made.{IsSoundUpTo, IsSoundList}
+use Rattle.intake.proofs.Common.{Bor, take_more, length-take-le, length-map, map-append, bytes_eq, not_from_Decides, bytes_eq-Decides, Finds, IsSoundUpTo, IsSoundList, Rise}
 use Rattle.intake.proofs.Order.{get_found}
 use Rattle.intake.proofs.PairLine.{one_place}
 use Rattle.intake.proofs.Rolls.{known_more, apart_more, contained, standing}
-use Rattle.intake.specs.Parts.{Rise}
 
 -- what a look-up past the end gives
 abbrev pub blank : Bor (List ℕ)

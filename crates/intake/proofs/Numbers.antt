@@ -1,16 +1,8 @@
 -- Numbers have texts of ASCII, and are read from them.
 use Rattle.std.proofs.Common.{sym, ◌≡◌, ℕ, zero, suc, ◌<◌, ◌≤◌, ◌^◌, ◌≢◌, ◌+◌, ℤ, pos, negsuc, List, [], ◌∷◌, length, map, set, get_or, Result, Ok, decimal, refl, ap, ◌∙◌, arith, below_more, length-set, get_or-set_other, get_or-set_same, to_z, of_z}
-use denote.Ref.{Bor}
-use Rattle.std.proofs.lemmas.List.{get_or_default}
-use Rattle.spa.specs.declared.TheConstants.{COMPONENTS, MAX_QUOTA}
-use Rattle.std.specs.Fmt.{signed_decimal}
-use Rattle.std.specs.Str.{IsUtf8}
+use Rattle.intake.proofs.Common.{Bor, get_or_default, COMPONENTS, MAX_QUOTA, signed_decimal, IsUtf8, ◌-ℤ◌, decimal_digit, parse-decimal, parse-signed_decimal, IsAscii-decimal, IsAscii-signed, ints, to_z-of_z, to_z_pos, InRange}
 use Rattle.std.specs.Str.Parse.{ParsesUnsigned, ParsesSigned}
-use Rattle.std.specs.Prelude.{◌-ℤ◌}
-use Rattle.std.proofs.lemmas.Fmt.{decimal_digit, parse-decimal, parse-signed_decimal, IsAscii-decimal, IsAscii-signed}
 use Rattle.std.proofs.lemmas.Str.{IsUtf8-from_ascii}
-use Rattle.std.proofs.lemmas.Int.{ints, to_z-of_z, to_z_pos}
-use Rattle.verdict.specs.Rows.{InRange}
 use lib.Signed.{mag}
 use mir.Syntax.{w64}
 

@@ -1,16 +1,11 @@
 -- The order of codes, and a search in codes that rise.
 use Rattle.std.proofs.Common.{◌≡◌, ◌≢◌, ℕ, zero, suc, ◌+◌, ◌-◌, ◌<◌, ◌≤◌, length-append, List, [], ◌∷◌, ◌++◌, length, map, get_or, slice_get, Some, None, refl, sym, ap, ◌∙◌, subst, inl, inr, arith}
 use Rattle.std.specs.declared.cmp.Ordering.{Ordering}
-use Rattle.std.specs.declared.cmp.Ordering.TheVariants.{Less, Equal, Greater}
+use Rattle.intake.proofs.Common.{Less, Equal, Greater, Bool, true, IsTrue, cases_lt, get_or_default, get_or_append_left, get_or_at, length-map, Finds, code_cmp, Rise}
 use Rattle.std.specs.FinMap.{slice_cmp-IsAntisymmetric, nat_cmp-IsAntisymmetric}
 use Rattle.std.specs.Ordering.{ordering_reverse, is_lt}
-use Rattle.std.specs.Prelude.{Bool, true, IsTrue}
 use Rattle.std.proofs.lemmas.Cmp.{nat_list_cmp_total, tied_itself}
-use Rattle.std.proofs.lemmas.Bool.{cases_lt}
-use Rattle.std.proofs.lemmas.List.{get_or_default, get_or_append_left, get_or_at, length-map}
 use Rattle.std.proofs.lemmas.List.Quantifiers.{all_pairs_push}
-use Rattle.spa.specs.Inside.Codes.{Finds}
-use Rattle.intake.specs.Parts.{code_cmp, Rise}
 
 -- codes that compare as equal are the same
 pub cmp_same : (a b : List ℕ) → code_cmp a b ≡ Equal → a ≡ b

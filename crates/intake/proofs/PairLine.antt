@@ -1,16 +1,6 @@
 -- What a pair's line refers to.
 use Rattle.std.proofs.Common.{◌≡◌, ℕ, zero, suc, ◌-◌, ◌<◌, List, [], ◌∷◌, length, map, get_or, slice_get, Some, None, Vec, Global, All, sym, ap, ◌∙◌, subst, inl, inr, arith}
-use Rattle.std.proofs.lemmas.Bool.{cases_order}
-use Rattle.spa.specs.declared.TheConstants.{RANKS}
-use Rattle.spa.specs.Shape.{IsPlaceOf}
-use Rattle.spa.specs.declared.code.Code.{Code}
-use Rattle.spa.specs.Inside.Codes.{Finds}
-use Rattle.spa.specs.Instance.{Student, students_of, student_codes, project_codes}
-use Rattle.spa.specs.Made.{IsSoundList}
-use Rattle.intake.specs.Parts.{Parts, Rise}
-use Rattle.intake.specs.Lines.{choice_code}
-use Rattle.intake.specs.Inside.PartialRound.{IsDraft}
-use Rattle.intake.specs.Inside.Entries.{NextPair}
+use Rattle.intake.proofs.Common.{cases_order, RANKS, IsPlaceOf, Code, Finds, Student, students_of, student_codes, project_codes, IsSoundList, Parts, Rise, choice_code, IsDraft, NextPair}
 use Rattle.intake.proofs.Found.{slice_get_at}
 use Rattle.intake.proofs.Order.{get_found, cmp_apart}
 use Rattle.intake.proofs.Rolls.{within_get}

@@ -1,14 +1,6 @@
 -- The pieces of a text: lines and fields.
 use Rattle.std.proofs.Common.{◌≡◌, ℕ, false, inl, inr, List, [], ◌∷◌, ◌++◌, All, refl, sym, ap, ◌∙◌, subst, append_assoc, append-nil, take, drop, ◌+◌, ◌-◌, ◌<◌, ◌≤◌, true, zero, suc, length, get_or, arith}
-use Rattle.std.specs.Prelude.{◌==◌}
-use Rattle.std.specs.List.{slice_split, onto_first, join_with_byte}
-use Rattle.std.proofs.lemmas.Bool.{cases_Bool}
-use Rattle.std.proofs.lemmas.List.Splits.{slice_split-cons_yes, slice_split-cons_no, slice_split_at, slice_split_none, join_with_byte-slice_split}
-use Rattle.std.proofs.lemmas.List.Elements.{All-nil, All-cons, All-head, All-tail, All-append}
-use Rattle.std.proofs.lemmas.List.{get_or-drop, drop-drop, drop_more, take_more, take_rest, length-drop, take-append-drop}
-use Rattle.intake.specs.Lines.{ended}
-use Rattle.intake.specs.Inside.PartialRound.{IsFree}
-use Rattle.intake.specs.Inside.Entries.{line_of}
+use Rattle.intake.proofs.Common.{◌==◌, slice_split, onto_first, join_with_byte, cases_Bool, slice_split-cons_yes, slice_split-cons_no, slice_split_at, slice_split_none, join_with_byte-slice_split, All-nil, All-cons, All-head, All-tail, All-append, get_or-drop, drop-drop, drop_more, take_more, take_rest, length-drop, take-append-drop, ended, IsFree, line_of}
 
 -- one byte more of the first piece
 onto_free : (c b : ℕ) (parts : List (List ℕ)) → (b == c) ≡ false → All (IsFree c) parts → All (IsFree c) (onto_first b parts)

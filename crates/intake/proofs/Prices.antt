@@ -1,17 +1,6 @@
 -- Prices of the rolls, one roll after the other.
 use Rattle.std.proofs.Common.{◌≡◌, ℕ, zero, suc, ◌-◌, ◌<◌, ◌≤◌, inl, inr, ℤ, pos, true, false, Bool, List, [], ◌∷◌, ◌++◌, length, map, replicate, slice_get, Some, All, refl, sym, ap, ◌∙◌, subst, arith}
-use Rattle.std.specs.Fmt.{signed_decimal}
-use Rattle.std.specs.Prelude.{⊤}
-use Rattle.std.proofs.lemmas.Int.{ints}
-use Rattle.std.proofs.lemmas.List.{length_push, length-append, length-map, length-replicate, get_or-replicate, nil_from_length}
-use Rattle.std.proofs.lemmas.List.Elements.{All-push, All-nil, All-append, All-replicate}
-use Rattle.spa.specs.declared.TheConstants.{COMPONENTS}
-use Rattle.spa.specs.Codes.{code_at}
-use Rattle.spa.specs.Instance.{Supervisor, Project, Student}
-use Rattle.intake.specs.Parts.{Parts, IsPrice, ArePricesOrNone, IsRoundParts}
-use Rattle.intake.specs.Lines.{Row, Priced, priced, price_section, price_rows}
-use Rattle.intake.specs.Inside.PartialRound.{ArePricesUpTo, NoneOrAll, AreUnpriced, AreComplete, ArePricedInOrder}
-use Rattle.intake.specs.Inside.Entries.{NextPrice, NextPriceAt, ArePricedUpTo, At, prices_at, with_prices, with_price, AddsOne, AddsPrice}
+use Rattle.intake.proofs.Common.{signed_decimal, ⊤, ints, length_push, length-append, length-map, length-replicate, get_or-replicate, nil_from_length, All-push, All-nil, All-append, All-replicate, COMPONENTS, code_at, Supervisor, Project, Student, Parts, IsPrice, ArePricesOrNone, IsRoundParts, Row, Priced, priced, price_section, price_rows, ArePricesUpTo, NoneOrAll, AreUnpriced, AreComplete, ArePricedInOrder, NextPrice, NextPriceAt, ArePricedUpTo, At, prices_at, with_prices, with_price, AddsOne, AddsPrice}
 use Rattle.intake.proofs.PairLine.{all_found}
 use Rattle.intake.proofs.Sections.{NoRows, NextAt, SameRows, Grows}
 

@@ -1,17 +1,6 @@
 -- What is left to write.
 use Rattle.std.proofs.Common.{◌≡◌, ℕ, ◌+◌, ◌-◌, ◌<◌, ◌≤◌, ℤ, List, [], ◌∷◌, ◌++◌, length, get_or, map, drop, codes, Option, Some, None, flat_map, refl, sym, ap, ◌∙◌, subst, inl, inr, decimal, arith, append_assoc, append-nil, add-one, drop-cons}
-use Rattle.std.specs.Fmt.{signed_decimal}
-use Rattle.std.proofs.lemmas.Bool.{cases_lt}
-use Rattle.std.proofs.lemmas.List.{get_or-map, drop_all}
-use Rattle.spa.specs.declared.aim.Aim.{Aim}
-use Rattle.spa.specs.Shape.{IsPlaceOf, choice_at}
-use Rattle.spa.specs.Codes.{code_at}
-use Rattle.std.proofs.lemmas.List.Concat.{flat_map-append}
-use Rattle.spa.specs.Instance.{supervisor_codes, project_codes, student_codes}
-use Rattle.spa.specs.Named.{Named, IsFit, instance_of, supervisors_named, projects_named, students_named}
-use Rattle.verdict.specs.declared.prices.Prices.{Prices}
-use Rattle.intake.specs.View.{proved}
-use Rattle.intake.specs.Lines.{sections, instance_text, round_text, line, ended, section_lines, aim_rows, supervisor_row, project_row, student_row, pair_rows, price_rows}
+use Rattle.intake.proofs.Common.{signed_decimal, cases_lt, get_or-map, drop_all, Aim, IsPlaceOf, choice_at, code_at, flat_map-append, supervisor_codes, project_codes, student_codes, Named, IsFit, instance_of, supervisors_named, projects_named, students_named, Prices, proved, sections, instance_text, round_text, line, ended, section_lines, aim_rows, supervisor_row, project_row, student_row, pair_rows, price_rows}
 
 -- a line x is written, and the rest is left
 pub next : (out new x rest whole : List ℕ) → new ≡ out ++ (x ++ []) → out ++ (x ++ rest) ≡ whole → new ++ rest ≡ whole

@@ -1,12 +1,6 @@
 -- Rolls of entries with codes, as the code keeps them and by codes.
 use Rattle.std.proofs.Common.{◌≡◌, ℕ, zero, suc, ◌+◌, ◌<◌, List, [], ◌∷◌, length, map, slice_get, Some, None, Vec, Global, Contains, refl, sym, ap, ◌∙◌, subst, inl, inr, arith, below_more}
-use Rattle.std.proofs.lemmas.Bool.{cases_lt}
-use Rattle.spa.specs.declared.code.Code.{Code}
-use Rattle.spa.specs.Instance.{supervisors_of, projects_of, students_of}
-use Rattle.spa.specs.Codes.{AreApart}
-use Rattle.spa.specs.Inside.Codes.{Finds}
-use Rattle.spa.specs.Made.{AreKnown, IsSoundList}
-use Rattle.intake.specs.Inside.Entries.{ComesNext}
+use Rattle.intake.proofs.Common.{cases_lt, Code, supervisors_of, projects_of, students_of, AreApart, Finds, AreKnown, IsSoundList, ComesNext}
 use Rattle.intake.proofs.Found.{slice_get_at}
 use Rattle.intake.proofs.Order.{get_found}
 

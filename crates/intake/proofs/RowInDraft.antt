@@ -1,12 +1,6 @@
 -- What a row adds to a draft.
 use Rattle.std.proofs.Common.{◌≡◌, ℕ, ◌<◌, ◌≤◌, ℤ, Bool, List, [], ◌∷◌, ◌++◌, length, map, get_or, Option, refl, ap, ◌∙◌, subst, arith}
-use denote.Ref.{Bor}
-use Rattle.std.proofs.lemmas.List.{map_push}
-use Rattle.spa.specs.declared.aim.Aim.{Aim}
-use Rattle.spa.specs.Instance.{Instance, Supervisor, Project, Student, given, supervisors_of, projects_of, students_of}
-use Rattle.intake.specs.Parts.{Parts}
-use Rattle.intake.specs.declared.section.SectionName.TheVariants.{Supervisors, Projects, Students}
-use Rattle.intake.specs.Inside.Entries.{AddsPrice, with_entry}
+use Rattle.intake.proofs.Common.{Bor, map_push, Aim, Instance, Supervisor, Project, Student, given, supervisors_of, projects_of, students_of, Parts, Supervisors, Projects, Students, AddsPrice, with_entry}
 use Rattle.intake.proofs.Lists.{blank}
 
 -- one field

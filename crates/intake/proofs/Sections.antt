@@ -1,15 +1,6 @@
 -- Rows in sections, and which section the next row belongs to.
 use Rattle.std.proofs.Common.{◌≡◌, ℕ, Bool, true, false, ◌||◌, ◌⊎◌, inl, inr, not, List, [], ◌∷◌, ◌++◌, zero, suc, map, flat_map, All, refl, sym, ap, ◌∙◌, append-nil, append_assoc}
-use Rattle.std.specs.Str.{bytes_eq}
-use Rattle.std.specs.List.{slice_split}
-use Rattle.std.specs.Prelude.{◌==◌, ◌&&◌, ⊤}
-use Rattle.std.proofs.lemmas.Bool.Decides.{not_from_Decides}
-use Rattle.std.proofs.lemmas.Slice.Eq.{bytes_eq-Decides}
-use Rattle.std.proofs.lemmas.List.{map-append}
-use Rattle.std.proofs.lemmas.List.Elements.{All-nil, All-cons, All-append, All-head, All-tail}
-use Rattle.std.proofs.lemmas.List.Splits.{slice_split_none, slice_split_at}
-use Rattle.intake.specs.Lines.{Row, Section, line, section_lines}
-use Rattle.intake.specs.Inside.PartialRound.{IsField, IsFree}
+use Rattle.intake.proofs.Common.{bytes_eq, slice_split, ◌==◌, ◌&&◌, ⊤, not_from_Decides, bytes_eq-Decides, map-append, All-nil, All-cons, All-append, All-head, All-tail, slice_split_none, slice_split_at, Row, Section, line, section_lines, IsField, IsFree}
 
 -- the fields of a line
 abbrev pub fields_of : List ℕ → List (List ℕ)

@@ -1,25 +1,7 @@
 -- The text of parts is not too large.
 use Rattle.std.proofs.Common.{◌≡◌, ℕ, ◌+◌, ◌*◌, ◌≤◌, ◌&&◌, ℤ, pos, negsuc, true, not, List, [], ◌∷◌, ◌++◌, length, map, flat_map, decimal, Option, Some, None, All, refl, ap, arith, length-append}
-use Rattle.std.specs.Fmt.{signed_decimal}
-use Rattle.std.specs.List.{list_all}
-use Rattle.std.specs.Prelude.{◌==◌, nat_le, slice_index}
-use Rattle.std.specs.Cmp.{first_so, second_so}
+use Rattle.intake.proofs.Common.{signed_decimal, list_all, ◌==◌, nat_le, slice_index, first_so, second_so, nat_tests, ints, length-decimal-le, length_signed_le, flat_map-append, length-map, All-head, All-tail, Aim, Greedy, Generous, MAX_QUOTA, is_code, is_code_byte, Supervisor, Project, Student, supervisor_codes, project_codes, student_codes, InRange, MAX_BYTES, Parts, IsRoundParts, Row, Section, line, ended, sections, section_lines, aim_rows, supervisor_row, project_row, student_row, pair_rows, price_rows, round_text}
 use Rattle.std.proofs.Math.Nat.{mul-suc}
-use Rattle.std.proofs.lemmas.Bool.Decides.{nat_tests}
-use Rattle.std.proofs.lemmas.Int.{ints}
-use Rattle.std.proofs.lemmas.Fmt.{length-decimal-le, length_signed_le}
-use Rattle.std.proofs.lemmas.List.Concat.{flat_map-append}
-use Rattle.std.proofs.lemmas.List.{length-map}
-use Rattle.std.proofs.lemmas.List.Elements.{All-head, All-tail}
-use Rattle.spa.specs.declared.aim.Aim.{Aim}
-use Rattle.spa.specs.declared.aim.Aim.TheVariants.{Greedy, Generous}
-use Rattle.spa.specs.declared.TheConstants.{MAX_QUOTA}
-use Rattle.spa.specs.Text.{is_code, is_code_byte}
-use Rattle.spa.specs.Instance.{Supervisor, Project, Student, supervisor_codes, project_codes, student_codes}
-use Rattle.verdict.specs.Rows.{InRange}
-use Rattle.intake.specs.declared.TheConstants.{MAX_BYTES}
-use Rattle.intake.specs.Parts.{Parts, IsRoundParts}
-use Rattle.intake.specs.Lines.{Row, Section, line, ended, sections, section_lines, aim_rows, supervisor_row, project_row, student_row, pair_rows, price_rows, round_text}
 use Rattle.intake.proofs.Widths.{Said, OfRows, OfLetters, widths, rows_said}
 use Rattle.intake.proofs.Numbers.{small}
 

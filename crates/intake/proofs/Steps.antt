@@ -1,20 +1,6 @@
 -- A draft with one entry more is a draft, and has that line after the others.
 use Rattle.std.proofs.Common.{◌≡◌, ℕ, zero, suc, ◌+◌, ◌-◌, ◌≤◌, ℤ, List, [], ◌∷◌, ◌++◌, length, map, slice_get, replicate, drop, codes, Option, Some, None, All, Contains, refl, sym, ap, ◌∙◌, subst, arith}
-use Rattle.std.specs.Prelude.{IsTrue}
-use Rattle.std.proofs.lemmas.List.{map_push, length_push, length-map}
-use Rattle.std.proofs.lemmas.List.Elements.{All-push, All-nil}
-use Rattle.spa.specs.Shape.{IsPlaceOf}
-use Rattle.spa.specs.declared.aim.Aim.{Aim}
-use Rattle.spa.specs.declared.TheConstants.{MAX_QUOTA}
-use Rattle.spa.specs.Text.{is_code}
-use Rattle.spa.specs.Instance.{Supervisor, Project, Student, supervisor_codes, project_codes, student_codes}
-use Rattle.spa.specs.Made.{IsSoundList}
-use Rattle.intake.specs.declared.section.SectionName.{SectionName}
-use Rattle.intake.specs.declared.section.SectionName.TheVariants.{Aims, Supervisors, Projects, Students, Pairs, StudentPrices, ProjectPrices, SupervisorPrices}
-use Rattle.intake.specs.Parts.{Parts, IsRoll, IsRoundInstance}
-use Rattle.intake.specs.Lines.{Row, choice_code, line, sections, priced, price_section, price_rows, round_lines, supervisor_row, project_row, student_row, pair_rows}
-use Rattle.intake.specs.Inside.PartialRound.{IsDraft, ArePricesUpTo, ArePlaces, EndsPlaced, HasNoPrices}
-use Rattle.intake.specs.Inside.Entries.{ComesNext, NextAim, NextSupervisor, NextProject, NextStudent, NextPair, NextPriceAt, MayComeNext, IsNext, ArePricedUpTo, At, Entry, with_entry, with_price, with_prices, prices_at, letter_of}
+use Rattle.intake.proofs.Common.{IsTrue, map_push, length_push, length-map, All-push, All-nil, IsPlaceOf, Aim, MAX_QUOTA, is_code, Supervisor, Project, Student, supervisor_codes, project_codes, student_codes, IsSoundList, SectionName, Aims, Supervisors, Projects, Students, Pairs, StudentPrices, ProjectPrices, SupervisorPrices, Parts, IsRoll, IsRoundInstance, Row, choice_code, line, sections, priced, price_section, price_rows, round_lines, supervisor_row, project_row, student_row, pair_rows, IsDraft, ArePricesUpTo, ArePlaces, EndsPlaced, HasNoPrices, ComesNext, NextAim, NextSupervisor, NextProject, NextStudent, NextPair, NextPriceAt, MayComeNext, IsNext, ArePricedUpTo, At, Entry, with_entry, with_price, with_prices, prices_at, letter_of}
 use Rattle.intake.proofs.Prices.{unpriced_turn, unpriced_rows, changed_turn, changed_grows, pushed_prices, pushed_rows}
 use Rattle.intake.proofs.Sections.{NoRows, Grows, letter_at, lines_grow}
 

@@ -1,23 +1,6 @@
 -- The section that the next row is in says what the draft takes.
 use Rattle.std.proofs.Common.{◌≡◌, ℕ, zero, suc, ◌<◌, ◌≤◌, inl, inr, ℤ, Bool, false, ◌||◌, List, [], ◌∷◌, ◌++◌, length, map, get_or, slice_get, codes, Option, Some, None, Contains, refl, sym, ap, ◌∙◌, subst, arith}
-use Rattle.std.specs.List.{AllZip}
-use Rattle.std.specs.Prelude.{IsTrue}
-use Rattle.std.specs.Str.{bytes_eq}
-use Rattle.std.proofs.lemmas.Bool.{cases_Bool}
-use Rattle.std.proofs.lemmas.Slice.Eq.{bytes_eq-Decides}
-use Rattle.std.proofs.lemmas.List.{length-append, length-map, get_or_append_left}
-use Rattle.spa.specs.declared.aim.Aim.{Aim}
-use Rattle.spa.specs.declared.aim.Aim.TheVariants.{Greedy, Generous}
-use Rattle.spa.specs.Shape.{IsPlaceOf}
-use Rattle.spa.specs.Text.{is_code}
-use Rattle.spa.specs.Instance.{Supervisor, Project, Student, supervisor_codes, project_codes}
-use Rattle.spa.specs.Made.{IsSoundList}
-use Rattle.intake.specs.declared.section.SectionName.{SectionName}
-use Rattle.intake.specs.declared.section.SectionName.TheVariants.{Aims, Supervisors, Projects, Students, Pairs, StudentPrices, ProjectPrices, SupervisorPrices}
-use Rattle.intake.specs.Parts.{Parts, Rise, IsPlace, IsRoll, IsRoundParts}
-use Rattle.intake.specs.Lines.{Row, choice_code, sections, priced, round_lines, aim_rows, supervisor_row, project_row, student_row, pair_rows}
-use Rattle.intake.specs.Inside.PartialRound.{IsDraft, IsWhole, ArePlaces, EndsPlaced}
-use Rattle.intake.specs.Inside.Entries.{ComesNext, NextAim, NextPriceAt, MayComeNext, IsNext, ArePricedUpTo, Entry, letter_of}
+use Rattle.intake.proofs.Common.{AllZip, IsTrue, bytes_eq, cases_Bool, bytes_eq-Decides, length-append, length-map, get_or_append_left, Aim, Greedy, Generous, IsPlaceOf, is_code, Supervisor, Project, Student, supervisor_codes, project_codes, IsSoundList, SectionName, Aims, Supervisors, Projects, Students, Pairs, StudentPrices, ProjectPrices, SupervisorPrices, Parts, Rise, IsPlace, IsRoll, IsRoundParts, Row, choice_code, sections, priced, round_lines, aim_rows, supervisor_row, project_row, student_row, pair_rows, IsDraft, IsWhole, ArePlaces, EndsPlaced, ComesNext, NextAim, NextPriceAt, MayComeNext, IsNext, ArePricedUpTo, Entry, letter_of}
 use Rattle.intake.proofs.Order.{cmp_apart, get_found}
 use Rattle.intake.proofs.PairLine.{all_found, get_mapped}
 use Rattle.intake.proofs.Prices.{SameCodes, rows_unpriced, parts_priced, takes_next, all_complete}

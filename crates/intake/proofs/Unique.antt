@@ -1,27 +1,10 @@
 -- The text of parts determines them.
 use Rattle.std.proofs.Common.{◌≡◌, ℕ, suc, ◌-◌, ◌<◌, ◌≤◌, inl, inr, ℤ, pos, List, [], ◌∷◌, length, map, get_or, slice_get, Option, Some, None, All, Result, Ok, Err, decimal, refl, sym, ap, ◌∙◌, subst, arith}
-use Rattle.std.specs.Fmt.{signed_decimal}
-use Rattle.std.specs.List.{AllZip}
-use Rattle.std.proofs.lemmas.Bool.{cases_order}
-use Rattle.std.proofs.lemmas.Fmt.{decimal_injective, signed_decimal_injective}
-use Rattle.std.proofs.lemmas.List.{append_cancel_right, length-map}
-use Rattle.std.proofs.lemmas.List.Elements.{All-head, All-tail}
-use Rattle.spa.specs.Shape.{IsPlaceOf}
-use Rattle.spa.specs.declared.aim.Aim.{Aim}
-use Rattle.spa.specs.declared.aim.Aim.TheVariants.{Greedy, Generous}
-use Rattle.spa.specs.declared.TheConstants.{MAX_QUOTA}
-use Rattle.spa.specs.Codes.{code_at, AreApart}
-use Rattle.spa.specs.Instance.{Supervisor, Project, Student, project_codes}
-use Rattle.spa.specs.Made.{IsSoundList}
-use Rattle.verdict.specs.Rows.{InRange}
+use Rattle.intake.proofs.Common.{signed_decimal, AllZip, cases_order, decimal_injective, signed_decimal_injective, append_cancel_right, length-map, All-head, All-tail, IsPlaceOf, Aim, Greedy, Generous, MAX_QUOTA, code_at, AreApart, Supervisor, Project, Student, project_codes, IsSoundList, InRange, Parts, Rise, IsPlace, IsPrice, ArePricesOrNone, IsRoundParts, Row, choice_code, sections, round_lines, round_text, aim_rows, supervisor_row, project_row, pair_rows, price_rows, IsReading, IsReadBack, parts_read}
 use Rattle.intake.specs.declared.round.RoundParts.{RoundParts}
 use Rattle.intake.specs.declared.round.RoundFault.{RoundFault}
 use Rattle.intake.specs.declared.round.RoundFault.TheVariants.{Memory, TooLarge, Line}
-use Rattle.intake.specs.Parts.{Parts, Rise, IsPlace, IsPrice, ArePricesOrNone, IsRoundParts}
 use Rattle.intake.proofs.Size.{text_small}
-use Rattle.intake.specs.Lines.{Row, choice_code, sections, round_lines, round_text, aim_rows, supervisor_row, project_row, pair_rows, price_rows}
-use Rattle.intake.specs.Reading.{IsReading, IsReadBack}
-use Rattle.intake.specs.View.{parts_read}
 use Rattle.intake.proofs.Bad.{round_pieces}
 use Rattle.intake.proofs.Found.{slice_get_at}
 use Rattle.intake.proofs.Goes.{parts_plain}

@@ -1,23 +1,6 @@
 -- What is written is the parts of a round.
 use Rattle.std.proofs.Common.{◌≡◌, ◌≢◌, ℕ, suc, ◌<◌, ◌≤◌, inl, inr, ℤ, List, [], ◌∷◌, length, map, get_or, slice_get, Option, Some, None, All, Contains, refl, sym, ap, ◌∙◌, subst, arith}
-use Rattle.std.specs.Prelude.{IsTrue, AllPairs}
-use Rattle.std.specs.List.{AllZip}
-use Rattle.std.proofs.lemmas.List.{length-map, get_or_default}
-use Rattle.std.proofs.lemmas.List.Elements.{All-nil, All-cons, All-head, All-tail}
-use Rattle.spa.specs.declared.aim.Aim.{Aim}
-use Rattle.spa.specs.Shape.{IsPlaceOf}
-use Rattle.spa.specs.declared.TheConstants.{COMPONENTS, RANKS, MAX_QUOTA}
-use Rattle.spa.specs.Text.{is_code}
-use Rattle.spa.specs.Codes.{code_at, AreApart}
-use Rattle.spa.specs.Instance.{Supervisor, Project, Student, supervisor_codes, project_codes, student_codes}
-use Rattle.spa.specs.Named.{Named, IsFit, instance_of, supervisors_named, projects_named, students_named}
-use Rattle.spa.specs.Made.{IsWithin, IsSoundList}
-use Rattle.spa.specs.Matched.{HasPlaces}
-use Rattle.verdict.specs.Rows.{EachInRange, AllInRange}
-use Rattle.verdict.specs.Verdict.{HasShape}
-use Rattle.verdict.specs.declared.prices.Prices.{Prices}
-use Rattle.intake.specs.Parts.{Rise, IsRoll, IsPlace, ArePricesOrNone, IsRoundInstance, IsRoundParts}
-use Rattle.intake.specs.View.{alone, proved}
+use Rattle.intake.proofs.Common.{IsTrue, AllPairs, AllZip, length-map, get_or_default, All-nil, All-cons, All-head, All-tail, Aim, IsPlaceOf, COMPONENTS, RANKS, MAX_QUOTA, is_code, code_at, AreApart, Supervisor, Project, Student, supervisor_codes, project_codes, student_codes, Named, IsFit, instance_of, supervisors_named, projects_named, students_named, IsWithin, IsSoundList, HasPlaces, EachInRange, AllInRange, HasShape, Prices, Rise, IsRoll, IsPlace, ArePricesOrNone, IsRoundInstance, IsRoundParts, alone, proved}
 use Rattle.intake.proofs.Found.{slice_get_at}
 use Rattle.intake.proofs.PairLine.{get_mapped}
 use Rattle.intake.proofs.Rolls.{contained}

@@ -1,18 +1,6 @@
 -- What is said of each field and row, said of the rows of all sections.
 use Rattle.std.proofs.Common.{◌≡◌, ℕ, zero, suc, ◌+◌, ◌-◌, ◌*◌, ◌<◌, ◌≤◌, ℤ, pos, true, List, [], ◌∷◌, length, map, get_or, slice_get, codes, decimal, Option, Some, None, All, Contains, refl, arith}
-use Rattle.std.specs.Fmt.{signed_decimal}
-use Rattle.std.specs.Prelude.{IsTrue, ⊤}
-use Rattle.std.proofs.lemmas.List.Elements.{All-nil, All-cons, All-head, All-tail, All-map, All-contains}
-use Rattle.spa.specs.declared.aim.Aim.{Aim}
-use Rattle.spa.specs.declared.aim.Aim.TheVariants.{Greedy, Generous}
-use Rattle.spa.specs.declared.TheConstants.{MAX_QUOTA, RANKS, COMPONENTS}
-use Rattle.spa.specs.Text.{is_code}
-use Rattle.spa.specs.Codes.{code_at}
-use Rattle.spa.specs.Instance.{Instance, Supervisor, Project, Student, supervisor_codes, project_codes, student_codes}
-use Rattle.spa.specs.Made.{IsSoundList}
-use Rattle.verdict.specs.Rows.{InRange}
-use Rattle.intake.specs.Parts.{Parts, IsRoll, IsPrice, IsRoundInstance}
-use Rattle.intake.specs.Lines.{Row, Section, choice_code, sections, aim_rows, supervisor_row, project_row, student_row, pair_rows, price_rows}
+use Rattle.intake.proofs.Common.{signed_decimal, IsTrue, ⊤, All-nil, All-cons, All-head, All-tail, All-map, All-contains, Aim, Greedy, Generous, MAX_QUOTA, RANKS, COMPONENTS, is_code, code_at, Instance, Supervisor, Project, Student, supervisor_codes, project_codes, student_codes, IsSoundList, InRange, Parts, IsRoll, IsPrice, IsRoundInstance, Row, Section, choice_code, sections, aim_rows, supervisor_row, project_row, student_row, pair_rows, price_rows}
 use Rattle.intake.proofs.Found.{slice_get_at}
 use Rattle.intake.proofs.PairLine.{all_found, get_mapped}
 

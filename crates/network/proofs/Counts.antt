@@ -1,10 +1,6 @@
 -- the counts of one roll, the projects or the supervisors, of which one changes
 use Rattle.std.proofs.Common.{◌≡◌, ℕ, ◌+◌, ◌<◌, inl, inr, List, length, set, refl, arith, sym, ◌∙◌, ap, subst, get_or-set_same, get_or-set_other}
-use Rattle.std.specs.Prelude.{slice_index, nat_eq}
-use Rattle.std.proofs.lemmas.Bool.{cases_eq, eq-eqb, ne_eqb}
-use Rattle.network.specs.Inside.Push.{one_if}
-use Rattle.network.specs.Inside.Arcs.{project_count, sink_of}
-use Rattle.network.specs.declared.flow.Flow.{Flow}
+use Rattle.network.proofs.Common.{slice_index, nat_eq, cases_eq, eq-eqb, ne_eqb, one_if, project_count, sink_of, Flow}
 
 -- a number is itself
 pub itself : (r : ℕ) → one_if (nat_eq r r) ≡ 1

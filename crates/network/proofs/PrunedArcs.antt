@@ -1,15 +1,6 @@
 -- Which nodes have a way to the sink that costs nothing, and which arcs a search spares.
 use Rattle.std.proofs.Common.{◌≡◌, ℕ, ◌+◌, ◌<◌, ◌≤◌, length, Some, slice_get, arith, sym, ◌∙◌, ◌⊎◌, inl, inr, true, false}
-use Rattle.std.specs.Prelude.{slice_index}
-use Rattle.std.proofs.lemmas.Option.{slice_get_within, some_pair_parts}
-use Rattle.network.specs.Inside.Arcs.{project_count, sink_of, Arc}
-use Rattle.network.specs.Inside.Ways.{HasRoom, HasFreePath, at_sink, by_supervisor, by_project, SearchArc}
-use Rattle.network.specs.declared.flow.Flow.{Flow}
-use Rattle.std.proofs.lemmas.Bool.{cases_Bool}
-use Rattle.std.specs.Ordering.{is_gt}
-use Rattle.spa.specs.Laws.{Ops, AtMost}
-use Rattle.network.specs.declared.marks.Origin.{Origin}
-use Rattle.network.specs.declared.marks.Origin.TheVariants.{Unseen, Offer, Room}
+use Rattle.network.proofs.Common.{slice_index, slice_get_within, some_pair_parts, project_count, sink_of, Arc, HasRoom, HasFreePath, at_sink, by_supervisor, by_project, SearchArc, Flow, cases_Bool, is_gt, Ops, AtMost, Origin, Unseen, Offer, Room}
 
 module _ {G : Type 0} (f : Flow G) where
   -- a project, only where it has room and its supervisor has

@@ -1,10 +1,7 @@
 -- What is counted of a fit office is small.
 use Rattle.std.proofs.Common.{ℕ, ◌≤◌, Bool, length, count_by, arith}
 use Rattle.std.proofs.lemmas.List.Sums.{count_by-le-length}
-use Rattle.spa.specs.declared.TheConstants.{MAX_STUDENTS}
-use Rattle.rolls.specs.declared.rounds.Placement.{Placement}
-use Rattle.rolls.specs.State.{State, lists_of}
-use Rattle.rolls.specs.Fit.{IsFit}
+use Rattle.office.proofs.Common.{MAX_STUDENTS, Placement, State, lists_of, IsFit}
 use Rattle.rolls.proofs.NoMoreThanFound.{few_placed, few_lists}
 
 pub placements_few : (o : State) → IsFit o → length o.placements ≤ MAX_STUDENTS

@@ -1,31 +1,11 @@
 -- An import makes its rows one after another. While it is under way, what is left decides as the whole did from the office
 -- before; at the end nothing is left, so all rows were made.
 use Rattle.std.proofs.Common.{◌≡◌, ℕ, suc, ◌+◌, List, [], ◌∷◌, ◌++◌, length, Option, Some, None, refl, sym, ap, subst, ◌∙◌, arith}
-use Rattle.std.proofs.lemmas.List.{append_assoc, append-nil}
-use Rattle.std.specs.Prelude.{◌&&◌, not, nat_le, Bool, true, false, is_some, Ok, if◌then◌else◌}
-use Rattle.std.specs.Option.{option_map, unwrap_or}
-use Rattle.rolls.specs.declared.TheConstants.{MAX_IMPORTS}
-use Rattle.rolls.specs.declared.import.Import.{Import}
+use Rattle.office.proofs.Common.{append_assoc, append-nil, ◌&&◌, not, nat_le, Bool, true, false, is_some, Ok, if◌then◌else◌, option_map, unwrap_or, MAX_IMPORTS, Import, ImportTable, Add, Refusal, Plain, Done, Change, of_code, find, rises, State, import_key, import_of, has_import, kept_rows, Transforms, import_cells, first, plain_refusal, import_tests, after_plain, or_else, at_record, rows_refusal, after_rows, import_refusal, with_import, IsDone, Imports, allowed, put_or_added, changes_of, changes_of_rows, import_changes}
 use Rattle.rolls.specs.declared.import.ImportKind.{ImportKind}
 use Rattle.rolls.specs.declared.request.Reply.TheVariants as reply
-use Rattle.row_model.specs.declared.table.Table.TheVariants.{Import as ImportTable}
-use Rattle.row_model.specs.declared.row.Change.TheVariants.{Add}
-use Rattle.rolls.specs.declared.refusal.Refusal.{Refusal}
 use Rattle.rolls.specs.declared.refusal.Refusal.TheVariants as no
-use Rattle.rolls.specs.declared.request.Plain.{Plain}
-use Rattle.rolls.specs.declared.request.Done.{Done}
-use Rattle.row_model.specs.declared.row.Change.{Change}
-use Rattle.rolls.specs.Roll.{of_code, find, rises}
-use Rattle.rolls.specs.State.{State, import_key, import_of, has_import, kept_rows}
-use Rattle.rolls.specs.Rows.{Transforms, import_cells}
-use Rattle.rolls.specs.Refusing.{first, plain_refusal, import_tests}
-use Rattle.rolls.specs.Stepping.{after_plain}
 use Rattle.rolls.specs.RefusalInfo.{number_of}
-use Rattle.rolls.specs.Importing.{or_else, at_record, rows_refusal, after_rows, import_refusal, with_import}
-use Rattle.rolls.specs.Answers.{IsDone, Imports}
-use Rattle.rolls.proofs.NoRefusal.{allowed}
-use Rattle.rolls.specs.Making.{put_or_added, changes_of}
-use Rattle.change_laws.specs.Changes.{changes_of_rows, import_changes}
 use Rattle.change_laws.proofs.ImportChanges.{keep_none}
 use Rattle.change_laws.proofs.Changes.{transforms_follow}
 use Rattle.change_laws.proofs.OneRow.{transforms_import}

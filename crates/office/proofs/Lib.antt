@@ -1,3 +1,4 @@
+mod Common
 pub mod Made
 pub mod ListPuts
 pub mod Few

@@ -2,17 +2,9 @@
 -- student.
 use Rattle.std.proofs.Common.{◌≡◌, ℕ, zero, suc, ◌≤◌, ◌==◌, true, false, ◌&&◌, nat_le, List, [], length, Option, Some, None, is_some, refl, ap, arith}
 use Rattle.std.specs.Cmp.{second_so}
-use Rattle.std.specs.Option.{option_map_or}
-use Rattle.std.specs.List.{AllByRecursion}
+use Rattle.office.proofs.Common.{option_map_or, AllByRecursion, RANKS, Round, PutList, ReopenRound, State, has_project, round_of, last_round, round_is_open, plain_refusal, list_tests, reopening_tests, allowed, IsFit}
 use Rattle.std.proofs.lemmas.Bool.Decides.{nat_tests}
-use Rattle.spa.specs.declared.TheConstants.{RANKS}
-use Rattle.rolls.specs.declared.rounds.Round.{Round}
-use Rattle.rolls.specs.declared.request.Plain.TheVariants.{PutList, ReopenRound}
-use Rattle.rolls.specs.State.{State, has_project, round_of, last_round, round_is_open}
-use Rattle.rolls.specs.Refusing.{plain_refusal, list_tests, reopening_tests}
-use Rattle.rolls.proofs.NoRefusal.{allowed}
 use Rattle.rolls.proofs.LastRound.{some_round}
-use Rattle.rolls.specs.Fit.{IsFit}
 use Rattle.change_laws.proofs.Entries.{not_false}
 use Rattle.change_laws.proofs.KnownChoices.{choices_known}
 

@@ -1,17 +1,6 @@
 -- A plain request was made: the office after it is the one that is asked for, so it is fit, and the changes transform the rows.
 use Rattle.std.proofs.Common.{◌≡◌, List, Option, Some, None, sym, ap, subst, ◌∙◌}
-use Rattle.std.specs.Option.{option_map_or}
-use Rattle.rolls.specs.declared.rounds.Round.{Round}
-use Rattle.rolls.specs.declared.request.Plain.{Plain}
-use Rattle.rolls.specs.declared.request.Done.{Done}
-use Rattle.rolls.specs.Roll.{put}
-use Rattle.rolls.specs.State.{State, round_key, round_of, last_round}
-use Rattle.rolls.specs.Fit.{IsFit}
-use Rattle.rolls.specs.Rows.{Transforms}
-use Rattle.rolls.specs.Refusing.{plain_refusal}
-use Rattle.rolls.specs.Stepping.{after_plain, plain_reply, with_last}
-use Rattle.rolls.specs.Answers.{IsDone}
-use Rattle.rolls.specs.Making.{changes_of}
+use Rattle.office.proofs.Common.{option_map_or, Round, Plain, Done, put, State, round_key, round_of, last_round, IsFit, Transforms, plain_refusal, after_plain, plain_reply, with_last, IsDone, changes_of}
 use Rattle.change_laws.proofs.StaysFit.{stays_fit}
 use Rattle.change_laws.proofs.PlainTransforms.{changes_transform}
 

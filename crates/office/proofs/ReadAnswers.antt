@@ -1,13 +1,7 @@
 -- A read answers, and changes nothing.
 use Rattle.std.proofs.Common.{◌≡◌, [], Some, None, sym, subst}
 use Rattle.std.proofs.lemmas.List.Sorted.{IsPermutation-refl}
-use Rattle.rolls.specs.declared.request.Done.{Done}
-use Rattle.rolls.specs.State.{State}
-use Rattle.rolls.specs.Rows.{Transforms}
-use Rattle.rolls.specs.declared.request.Plain.{Plain}
-use Rattle.rolls.specs.Refusing.{plain_refusal}
-use Rattle.rolls.specs.Stepping.{after_plain, plain_reply}
-use Rattle.rolls.specs.Answers.{IsDone}
+use Rattle.office.proofs.Common.{Done, State, Transforms, Plain, plain_refusal, after_plain, plain_reply, IsDone}
 
 -- no changes transform no rows
 pub none_transforms : (o : State) → Transforms [] o o

@@ -1,3 +1,4 @@
+mod Common
 pub mod SameRound
 pub mod Positions
 pub mod OneMoreStudent

@@ -1,35 +1,16 @@
 -- A student who puts a first list is one more in the round's instance: with the student's code and list at its end, an instance by
 -- positions that was of the round before is of the round after.
 use Rattle.std.proofs.Common.{◌≡◌, ◌≢◌, ℕ, zero, suc, ◌+◌, ◌<◌, ◌≤◌, inl, inr, Bool, true, false, cond, List, [], ◌∷◌, ◌++◌, length, map, slice_get, find, Option, Some, None, is_some, IsSome, option_map, All, AllPairs, refl, sym, ap, subst, ◌∙◌, arith, length-append}
-use Rattle.std.specs.Option.{option_map_or, option_or}
-use Rattle.std.specs.Str.{bytes_eq}
+use Rattle.outside.proofs.Common.{option_map_or, option_or, bytes_eq, length-map, length_push, All-push, bytes_eq-Decides, RANKS, MAX_STUDENTS, code_at, Shape, Instance, project_codes, Named, Names, IsFitInstance, instance_of, projects_named, students_named, IsRanking, SessionState, with_list, Listed, State, list_key, aim_of, last_round, lists_of, list_of, choices_in, is_open, round_is_open, round_instance, IsFit, ListFits, same_code, find-put, length-put, holds_of_found, same_as_itself, IsSameRound, IsSessionOf, IsFirstList, MayJoin}
 use Rattle.std.proofs.lemmas.Bool.{cases_Bool, cases_lt}
-use Rattle.std.proofs.lemmas.List.{length-map, length_push}
-use Rattle.std.proofs.lemmas.List.Elements.{All-push}
 use Rattle.std.proofs.lemmas.List.Folds.{find-append}
-use Rattle.std.proofs.lemmas.Slice.Eq.{bytes_eq-Decides}
-use Rattle.spa.specs.declared.TheConstants.{RANKS, MAX_STUDENTS}
-use Rattle.spa.specs.Codes.{code_at}
-use Rattle.spa.specs.Shape.{Shape}
 use Rattle.spa.specs.Instance as spa
-use Rattle.spa.specs.Instance.{Instance, project_codes}
-use Rattle.spa.specs.Named.{Named, Names, IsFit as IsFitInstance, instance_of, projects_named, students_named}
-use Rattle.spa.specs.Inside.Made.{IsRanking}
-use Rattle.solver.specs.SessionState.{SessionState, with_list}
 use Rattle.rolls.specs.declared.rounds.Round.{Round}
-use Rattle.rolls.specs.declared.rounds.Listed.{Listed}
 use Rattle.rolls.specs.Roll.{find as entry, put}
-use Rattle.rolls.specs.State.{State, list_key, aim_of, last_round, lists_of, list_of, choices_in, is_open, round_is_open}
-use Rattle.rolls.specs.Instances.{round_instance}
-use Rattle.rolls.specs.Fit.{IsFit, ListFits}
 use Rattle.rolls.specs.Stepping.{with_last}
-use Rattle.rolls.proofs.EntryChange.{same_code, find-put, length-put}
-use Rattle.rolls.proofs.Found.{holds_of_found}
 use Rattle.rolls.proofs.LastRound.{last_kept, reading_kept}
 use Rattle.closing.proofs.Entries.{find_made}
-use Rattle.closing.proofs.UniqueCodes.{same_as_itself}
 use Rattle.change_laws.proofs.StayingRounds.{lists_changed}
-use Rattle.outside.specs.SessionRounds.{IsSameRound, IsSessionOf, IsFirstList, MayJoin}
 
 -- ---- an instance by positions with one student more
 

@@ -1,23 +1,10 @@
 -- The list of a student by positions: each project stands at its position in the roll, and none stands twice.
 use Rattle.std.proofs.Common.{◌≡◌, ◌≢◌, ℕ, ◌-◌, ◌<◌, true, List, [], ◌∷◌, length, map, get_or, slice_get, Option, Some, Result, Ok, Err, IfOk, All, AllPairs, Contains, refl, sym, ap, subst, ◌∙◌, arith}
-use Rattle.std.specs.Option.{option_map_or}
-use Rattle.std.proofs.lemmas.List.{get_or-map, length-map}
-use Rattle.std.proofs.lemmas.List.Elements.{All-from_recursion}
+use Rattle.outside.proofs.Common.{option_map_or, get_or-map, length-map, All-from_recursion, code_at, project_codes, IsRanking, Project, Listed, State, project_key, list_key, last_round, lists_of, list_of, choices_in, has_project, placed_in_project, round_instance, IsFit, ListFits, all_weaker, holds_of_found, contains_found, apart_since_distinct}
 use Rattle.std.proofs.lemmas.Option.{slice_get-get_or}
 use Rattle.std.specs.declared.vec.Vec.{Vec}
 use Rattle.std.specs.declared.alloc.Global.{Global}
-use Rattle.spa.specs.Codes.{code_at}
 use Rattle.spa.specs.Instance as spa
-use Rattle.spa.specs.Instance.{project_codes}
-use Rattle.spa.specs.Inside.Made.{IsRanking}
-use Rattle.rolls.specs.declared.entries.Project.{Project}
-use Rattle.rolls.specs.declared.rounds.Listed.{Listed}
-use Rattle.rolls.specs.State.{State, project_key, list_key, last_round, lists_of, list_of, choices_in, has_project, placed_in_project}
-use Rattle.rolls.specs.Instances.{round_instance}
-use Rattle.rolls.specs.Fit.{IsFit, ListFits}
-use Rattle.rolls.proofs.EntryChange.{all_weaker}
-use Rattle.rolls.proofs.Found.{holds_of_found}
-use Rattle.closing.proofs.UniqueCodes.{contains_found, apart_since_distinct}
 
 -- the projects that are left have the codes of the roll
 codes_left : (made : Project → spa.Project) → ((p : Project) → (made p).code ≡ p.code) → (ps : List Project) → map (λ e. e.code) (map made ps) ≡ map (λ p. p.code) ps

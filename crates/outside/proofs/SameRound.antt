@@ -1,16 +1,10 @@
 -- Two instances of one round. What is said of matchings by codes reads an instance by what is found at a code, so the same
 -- matchings are best in both.
 use Rattle.std.proofs.Common.{◌≡◌, ℕ, ◌+◌, ◌≤◌, List, [], count_by, find, All, Contains, sym, subst}
-use Rattle.std.specs.Prelude.{◌==◌, not, pos}
+use Rattle.outside.proofs.Common.{◌==◌, not, pos, option_map_or, bytes_eq, RANKS, Aim, Instance, Supervisor, Student, CodePair, choices_of, IsMatchingByCodes, IsBestByCodes, IsSameRound}
 use Rattle.std.specs.List.{prefix_len}
-use Rattle.std.specs.Option.{option_map_or}
-use Rattle.std.specs.Str.{bytes_eq}
-use Rattle.spa.specs.declared.TheConstants.{RANKS}
-use Rattle.spa.specs.declared.aim.Aim.{Aim}
 use Rattle.spa.specs.Order.{Precedes, ranks_read}
-use Rattle.spa.specs.Instance.{Instance, Supervisor, Project, Student}
-use Rattle.spa.specs.Coded.{CodePair, choices_of, IsMatchingByCodes, IsBestByCodes}
-use Rattle.outside.specs.SessionRounds.{IsSameRound}
+use Rattle.spa.specs.Instance.{Project}
 
 -- the other way round
 pub transformed_round : (l m : Instance) → IsSameRound l m → IsSameRound m l

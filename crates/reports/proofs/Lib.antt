@@ -1,3 +1,4 @@
+mod Common
 pub mod Widths
 pub mod Lines
 pub mod Risen

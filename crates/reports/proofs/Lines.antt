@@ -1,6 +1,6 @@
 -- Lines that are appended one entry after another.
 use Rattle.std.proofs.Common.{◌≡◌, ℕ, ◌+◌, ◌<◌, Bool, true, false, cond, List, [], ◌∷◌, ◌++◌, length, drop, get_or, filter, flat_map, suc, zero, refl, sym, ap, ◌∙◌, arith, append_assoc, append-nil}
-use Rattle.std.specs.List.{range_with_len}
+use Rattle.reports.proofs.Common.{range_with_len}
 use Rattle.std.proofs.lemmas.List.{at_drop_more}
 
 -- the entries from one on are this one and those after it

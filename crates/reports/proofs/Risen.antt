@@ -1,14 +1,11 @@
 -- What the writing of a round text asks: codes of entries in the order of their keys rise.
 use Rattle.std.proofs.Common.{◌≡◌, ℕ, true, List, [], ◌∷◌, map, refl, sym, ◌∙◌, arith}
-use Rattle.std.specs.Prelude.{All}
-use Rattle.std.specs.Cmp.{first_so, second_so}
+use Rattle.reports.proofs.Common.{All, first_so, second_so, Key, key_cmp, code_cmp, is_below, rises, Rise}
 use Rattle.std.specs.Ordering.{is_lt}
 use Rattle.std.specs.declared.cmp.Ordering.{Ordering}
 use Rattle.std.specs.declared.cmp.Ordering.TheVariants.{Less, Equal, Greater}
 use Rattle.std.proofs.lemmas.List.Elements.{All-cons}
 use Rattle.std.proofs.lemmas.List.Kept.{AllPairs-cons}
-use Rattle.rolls.specs.Roll.{Key, key_cmp, code_cmp, is_below, rises}
-use Rattle.intake.specs.Parts.{Rise}
 
 is_less : (r : Ordering) → is_lt r ≡ true → r ≡ Less
 is_less Less h = refl

@@ -1,15 +1,11 @@
 -- What the library writes into a width is `left` and `right`: each byte of a code is a character, and the fill is spaces.
 use Rattle.std.proofs.Common.{◌≡◌, ℕ, zero, suc, ◌+◌, ◌-◌, ◌<◌, ◌≤◌, IsTrue, Bool, true, false, cond, ◌==◌, ◌&&◌, List, [], ◌∷◌, ◌++◌, length, replicate, refl, sym, ap, ◌∙◌, arith, append-nil}
-use Rattle.std.specs.Fmt.{format_spec, padded, padded_integral, styled_text, styled_decimal, take_chars, char_count, is_char_start, decimal}
-use Rattle.std.specs.Cmp.{first_so, second_so}
-use Rattle.std.specs.List.{repeat, list_all}
-use Rattle.std.specs.Prelude.{encode_utf8}
+use Rattle.reports.proofs.Common.{format_spec, styled_text, styled_decimal, is_char_start, decimal, first_so, second_so, repeat, list_all, encode_utf8, eqb-true, left, right}
+use Rattle.std.specs.Fmt.{padded, padded_integral, take_chars, char_count}
 use Rattle.std.proofs.lemmas.Str.{encode_ascii}
-use Rattle.std.proofs.lemmas.Bool.{eqb-true}
 use Rattle.std.proofs.lemmas.Bool.Decides.{nat_tests}
 use Rattle.spa.specs.Text.{is_code, is_code_byte}
 use Rattle.spa.proofs.Texts.{code_bytes}
-use Rattle.reports.specs.Texts.{left, right}
 
 -- what a hole writes of a text under `<` and a width
 abbrev pub text_in : ℕ → List ℕ → List ℕ

@@ -2,21 +2,8 @@
 -- number takes the last place, and one with the next number is added after them. What a round holds is read by `option_map_or`:
 -- one lemma for all such readings, whether a change keeps what is read or another round is read.
 use Rattle.std.proofs.Common.{◌≡◌, ℕ, zero, suc, ◌+◌, ◌<◌, ◌≤◌, inl, inr, Bool, true, false, not, cond, List, [], ◌∷◌, ◌++◌, length, Option, Some, None, is_some, slice_get, refl, sym, ap, ◌∙◌, arith}
-use Rattle.std.specs.Prelude.{◌==◌, ◌&&◌}
-use Rattle.std.specs.Option.{option_map, option_map_or}
-use Rattle.std.specs.Cmp.{first_so, second_so, nat_cmp_is}
-use Rattle.std.specs.Ordering.{is_lt, is_eq, ordering_then}
-use Rattle.std.specs.declared.cmp.Ordering.{Ordering}
-use Rattle.std.specs.declared.cmp.Ordering.TheVariants.{Less, Equal, Greater}
-use Rattle.std.proofs.lemmas.Bool.{and_from, eqb-true, eq-eqb, cases_eq, cases_order, cases_Bool}
-use Rattle.std.proofs.lemmas.Option.{slice_get_past, slice_get_cases}
+use Rattle.rolls.proofs.Common.{◌==◌, ◌&&◌, option_map, option_map_or, first_so, second_so, nat_cmp_is, is_lt, is_eq, ordering_then, Ordering, Less, Equal, Greater, and_from, eqb-true, eq-eqb, cases_eq, cases_order, cases_Bool, slice_get_past, slice_get_cases, Round, Listed, RoundAim, key_cmp, same_key, by_order, find, put, is_below, rises, State, round_key, aim_key, list_key, round_of, last_round, is_open, is_closed, lists_of, choices_in, are_aimed, are_numbered, only_last_open}
 use Rattle.spa.specs.declared.aim.Aim.{Aim}
-use Rattle.rolls.specs.declared.rounds.Round.{Round}
-use Rattle.rolls.specs.declared.rounds.Listed.{Listed}
-use Rattle.rolls.specs.declared.rounds.RoundAim.{RoundAim}
-use Rattle.rolls.specs.Roll.{key_cmp, same_key, by_order, find, put, is_below, rises}
-use Rattle.rolls.specs.State.{State, round_key, aim_key, list_key, round_of, last_round, is_open, is_closed, lists_of, choices_in}
-use Rattle.rolls.specs.Fit.{are_aimed, are_numbered, only_last_open}
 use Rattle.rolls.specs.Stepping.{with_last, after_opening}
 use Rattle.rolls.proofs.EntryChange.{find-put}
 

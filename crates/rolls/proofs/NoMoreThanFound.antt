@@ -1,17 +1,7 @@
 -- Entries that are all found among others are no more than these: an office has no more placements than students, and no more
 -- lists in a round.
 use Rattle.std.proofs.Common.{◌≡◌, ◌⊎◌, ℕ, ◌-◌, ◌≤◌, inl, inr, true, false, cond, List, [], ◌∷◌, length, Option, Some, None, is_some, slice_get, refl, sym, ap, ◌∙◌, arith}
-use Rattle.std.specs.Option.{option_map_or}
-use Rattle.std.specs.List.{AllByRecursion}
-use Rattle.std.specs.Cmp.{first_so, second_so}
-use Rattle.std.specs.Ordering.{is_lt, is_eq, ordering_reverse}
-use Rattle.std.specs.declared.cmp.Ordering.{Ordering}
-use Rattle.std.specs.declared.cmp.Ordering.TheVariants.{Less, Equal, Greater}
-use Rattle.rolls.specs.declared.rounds.Listed.{Listed}
-use Rattle.rolls.specs.declared.rounds.Placement.{Placement}
-use Rattle.rolls.specs.Roll.{Key, key_cmp, has, find as entry, is_below, rises}
-use Rattle.rolls.specs.State.{State, student_key, list_key, placement_key, list_of, lists_of, has_student}
-use Rattle.rolls.specs.Fit.{IsFit, ListFits, PlacementFits}
+use Rattle.rolls.proofs.Common.{option_map_or, AllByRecursion, first_so, second_so, is_lt, is_eq, ordering_reverse, Ordering, Less, Equal, Greater, Listed, Placement, Key, key_cmp, has, entry, is_below, rises, State, student_key, list_key, placement_key, list_of, lists_of, has_student, IsFit, ListFits, PlacementFits}
 use Rattle.rolls.proofs.EntryChange.{all_weaker}
 use Rattle.rolls.proofs.Found.{found_key, holds_of_found}
 use Rattle.rolls.proofs.Places.{keys_total, find_below, below_all}

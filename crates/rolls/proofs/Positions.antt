@@ -1,20 +1,9 @@
 -- Positions of entries whose keys rise: an entry is found by its own key, and no two positions have one key. So what is counted at
 -- positions is counted by codes.
 use Rattle.std.proofs.Common.{◌≡◌, ℕ, zero, suc, ◌+◌, ◌<◌, ◌==◌, count_by, take, get_or, inl, inr, Bool, true, false, cond, List, [], ◌∷◌, length, Option, Some, None, is_some, slice_get, refl, sym, ap, ◌∙◌, arith}
-use Rattle.std.specs.Option.{option_map_or}
-use Rattle.std.specs.Cmp.{first_so, second_so}
-use Rattle.std.specs.Str.{bytes_eq}
-use Rattle.std.proofs.lemmas.Bool.{cases_eq, false_from_ne_true}
-use Rattle.std.proofs.lemmas.Bool.Decides.{nat_tests}
-use Rattle.std.proofs.lemmas.Option.{slice_get_cases}
+use Rattle.rolls.proofs.Common.{option_map_or, first_so, second_so, bytes_eq, cases_eq, false_from_ne_true, nat_tests, slice_get_cases, Project, Key, same_key, find, has, is_below, rises, State, supervisor_key, project_key, IsFit, ProjectFits, IsAt, AreRolls}
 use Rattle.std.proofs.lemmas.List.Sums.{count_by_more_yes, count_by_more_no}
 use Rattle.rolls.specs.declared.entries.Supervisor.{Supervisor}
-use Rattle.rolls.specs.declared.entries.Project.{Project}
-use Rattle.rolls.specs.Roll.{Key, same_key, find, has, is_below, rises}
-use Rattle.rolls.specs.State.{State, supervisor_key, project_key}
-use Rattle.rolls.specs.Fit.{IsFit, ProjectFits}
-use Rattle.rolls.specs.Inside.Place.{IsAt}
-use Rattle.rolls.specs.Counted.{AreRolls}
 use Rattle.rolls.specs.Inside.Counted.{ArePositions, IsOffRoll}
 use Rattle.rolls.proofs.EntryChange.{same_code, all_weaker}
 use Rattle.rolls.proofs.Found.{found_key}

@@ -1,15 +1,6 @@
 -- Of a fit office the keys of all entries rise, and each list has choices.
 use Rattle.std.proofs.Common.{◌≡◌, ℕ, suc, ◌<◌, ◌≤◌, true, List, [], ◌∷◌, length, Less, Equal, refl, sym, ap, ◌∙◌, arith}
-use Rattle.std.specs.Prelude.{◌==◌, ◌&&◌}
-use Rattle.std.specs.List.{AllByRecursion}
-use Rattle.std.specs.Ordering.{is_lt, nat_cmp, ordering_then}
-use Rattle.std.specs.Cmp.{first_so, second_so, nat_cmp_is}
-use Rattle.std.proofs.lemmas.Bool.Decides.{nat_tests}
-use Rattle.rolls.specs.declared.rounds.Round.{Round}
-use Rattle.rolls.specs.declared.rounds.RoundAim.{RoundAim}
-use Rattle.rolls.specs.Roll.{rises, is_below}
-use Rattle.rolls.specs.State.{State, supervisor_key, project_key, student_key, round_key, aim_key, list_key, placement_key, import_key, lists_of}
-use Rattle.rolls.specs.Fit.{IsFit, ListFits, are_aimed, are_numbered}
+use Rattle.rolls.proofs.Common.{◌==◌, ◌&&◌, AllByRecursion, is_lt, nat_cmp, ordering_then, first_so, second_so, nat_cmp_is, nat_tests, Round, RoundAim, rises, is_below, State, supervisor_key, project_key, student_key, round_key, aim_key, list_key, placement_key, import_key, lists_of, IsFit, ListFits, are_aimed, are_numbered}
 use Rattle.rolls.proofs.EntryChange.{all_weaker}
 
 -- keys rise, and each list has choices

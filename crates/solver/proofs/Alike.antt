@@ -1,13 +1,7 @@
 -- All matchings of an instance that are best by an aim have one size and one profile: each is as large as the other, and of two rows
 -- neither of which comes before the other all places are the same.
 use Rattle.std.proofs.Common.{◌≡◌, ℕ, zero, suc, ◌<◌, inl, inr, ℤ, pos, List, length, sym, subst, ◌-◌, arith}
-use Rattle.std.proofs.lemmas.Int.{ints}
-use Rattle.spa.specs.declared.TheConstants.{RANKS}
-use Rattle.spa.specs.declared.aim.Aim.{Aim}
-use Rattle.spa.specs.declared.aim.Aim.TheVariants.{Greedy, Generous}
-use Rattle.spa.specs.Order.{ranks_read}
-use Rattle.spa.specs.Shape.{Shape}
-use Rattle.spa.specs.Matching.{Pair, IsBest, profile}
+use Rattle.solver.proofs.Common.{ints, RANKS, Aim, Greedy, Generous, ranks_read, Shape, Pair, IsBest, profile}
 use Rattle.spa.proofs.Orders.{RowAtMost, at_most_from}
 
 -- rows at most one another are the same in all places

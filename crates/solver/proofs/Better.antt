@@ -1,11 +1,6 @@
 -- Comparing the total weights of two matchings, one of them best.
 use Rattle.std.proofs.Common.{◌≡◌, ℕ, ◌<◌, ◌<ℤ◌, ℤ, ◌∙◌, sym, subst, arith, List}
-use Rattle.spa.specs.declared.aim.Aim.{Aim}
-use Rattle.spa.specs.Order.{Precedes, as_read, order, IsSettled}
-use Rattle.spa.specs.Inside.Reading.{read_alike}
-use Rattle.spa.specs.Shape.{Shape}
-use Rattle.spa.specs.Matching.{Pair, IsUnbeaten, IsMatching, weight_row}
-use Rattle.spa.specs.declared.TheConstants.{COMPONENTS}
+use Rattle.solver.proofs.Common.{Aim, Precedes, as_read, order, IsSettled, read_alike, Shape, Pair, IsUnbeaten, IsMatching, weight_row, COMPONENTS}
 
 -- rows with the same first places come before one another alike
 pub moved : (v w x y : ℕ → ℤ) → ((t : ℕ) → t < COMPONENTS → v t ≡ w t) → ((t : ℕ) → t < COMPONENTS → x t ≡ y t) → Precedes COMPONENTS v x → Precedes COMPONENTS w y

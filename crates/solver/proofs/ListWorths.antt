@@ -1,9 +1,6 @@
 -- Lists with their worths, read by place.
 use Rattle.std.proofs.Common.{◌≡◌, ℕ, zero, suc, ◌+◌, ◌<◌, List, [], ◌∷◌, ◌++◌, length, map, take, slice_index, get_or, All, refl, ap, sym, ◌∙◌, arith, subst}
-use Rattle.spa.specs.Places.{Places}
-use Rattle.spa.specs.declared.TheConstants.{COMPONENTS}
-use Rattle.solver.specs.Inside.Weights.{worth_of, weighed_from, weighed}
-use Rattle.spa.specs.declared.aim.Aim.{Aim}
+use Rattle.solver.proofs.Common.{Places, COMPONENTS, worth_of, weighed_from, weighed, Aim}
 
 module _ (aim : Aim) where
   -- one place more

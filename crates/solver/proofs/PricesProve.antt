@@ -1,28 +1,9 @@
 -- Prices of a network of an instance prove its places best: read by place they are none below zero, they cover each listed
 -- pair, and they add up to what the places weigh. So the places are a best matching.
 use Rattle.std.proofs.Common.{◌≡◌, ℕ, zero, suc, ◌+◌, ◌<◌, ◌≤◌, inl, inr, ℤ, pos, ◌+ℤ◌, List, [], ◌∷◌, length, map, slice_get, slice_index, get_or, Contains, Some, refl, ap, sym, ◌∙◌, arith, subst}
-use Rattle.std.proofs.lemmas.Bool.{cases_lt}
-use Rattle.std.proofs.lemmas.List.{get_or_default, get_or_past}
-use Rattle.std.proofs.lemmas.Option.{slice_get-get_or}
-use Rattle.spa.specs.declared.TheConstants.{COMPONENTS, RANKS}
-use Rattle.spa.specs.Order.{as_read, order, none, plus}
-use Rattle.spa.specs.declared.aim.Aim.{Aim}
-use Rattle.spa.specs.declared.aim.Aim.TheVariants.{Greedy, Generous}
-use Rattle.spa.specs.Inside.Reading.{read_alike, read_twice}
-use Rattle.spa.specs.Shape.{Shape, IsSound, IsPlaceOf, list_of, choice_at, supervisor_of}
-use Rattle.spa.specs.Matching.{IsBest, rank_in, weight, weight_row}
-use Rattle.spa.specs.Matched.{pairs, IsMatched}
-use Rattle.spa.specs.Prices.{value, ProveBest}
+use Rattle.solver.proofs.Common.{cases_lt, get_or_default, get_or_past, slice_get-get_or, COMPONENTS, RANKS, as_read, order, none, plus, Aim, Greedy, Generous, read_alike, read_twice, Shape, IsSound, IsPlaceOf, list_of, choice_at, supervisor_of, IsBest, rank_in, weight, weight_row, pairs, IsMatched, value, ProveBest, Places, lex_ops, row, row-places_of, IsLexicographic, aim_sums, best_from_unbeaten, read_sum, rank_of_place, Seen, shape_of, ArePrices, IsPriced, worth_price, price_total, total_worth, worth_of, weighed, IsOf}
 use Rattle.spa.specs.Laws.{AtMost}
-use Rattle.spa.specs.Places.{Places, lex_ops, row}
-use Rattle.spa.specs.Inside.Places.{row-places_of}
-use Rattle.spa.specs.LexLaw.{IsLexicographic}
 use Rattle.spa.proofs.Duality.{listed_student, best_from_prices}
-use Rattle.spa.proofs.Aims.{aim_sums, best_from_unbeaten, read_sum}
-use Rattle.spa.proofs.Places.{rank_of_place}
-use Rattle.network.specs.Seen.{Seen, shape_of, ArePrices, IsPriced, price as worth_price, price_total, total_worth}
-use Rattle.solver.specs.Inside.Weights.{worth_of, weighed}
-use Rattle.solver.specs.Inside.Solved.{IsOf}
 use Rattle.solver.proofs.ListWorths.{projects_of-weighed_from, length-weighed_from, entry-weighed_from}
 use Rattle.solver.proofs.Totals.{value_read, weight_is}
 use Rattle.solver.proofs.Better.{moved}

@@ -1,22 +1,6 @@
 -- Worths read as rows of numbers.
 use Rattle.std.proofs.Common.{◌≡◌, ℕ, zero, suc, ◌<◌, ◌≤◌, inl, inr, ℤ, pos, List, [], ◌∷◌, ◌++◌, length, get_or, cond, Bool, true, false, ap, sym, ◌∙◌, arith, subst}
-use Rattle.std.specs.Prelude.{unsigned_abs, neg_ℤ, ◌-◌}
-use Rattle.std.proofs.lemmas.Bool.{cases_lt}
-use Rattle.std.proofs.lemmas.List.{get_or_append_left, get_or_push, get_or_past, length_push}
-use Rattle.spa.specs.declared.TheConstants.{COMPONENTS, RANKS}
-use Rattle.std.proofs.lemmas.Int.{ints}
-use Rattle.spa.specs.declared.aim.Aim.{Aim}
-use Rattle.spa.specs.declared.aim.Aim.TheVariants.{Greedy, Generous}
-use Rattle.spa.specs.Order.{as_read}
-use Rattle.spa.specs.Row.{at}
-use Rattle.spa.specs.Matching.{weight}
-use Rattle.spa.specs.Places.{Places, lex_ops, row}
-use Rattle.spa.specs.Inside.Places.{row-places_of}
-use Rattle.spa.specs.LexLaw.{IsLexicographic}
-use Rattle.verdict.specs.Rows.{price}
-use Rattle.network.specs.Seen.{price as worth_price}
-use Rattle.solver.specs.Inside.Weights.{worth_of}
-use Rattle.solver.specs.Inside.Solved.{AreNumbersOf}
+use Rattle.solver.proofs.Common.{unsigned_abs, neg_ℤ, ◌-◌, cases_lt, get_or_append_left, get_or_push, get_or_past, length_push, COMPONENTS, RANKS, ints, Aim, Greedy, Generous, as_read, at, weight, Places, lex_ops, row, row-places_of, IsLexicographic, price, worth_price, worth_of, AreNumbersOf}
 use Rattle.spa.proofs.LexOrder.{row-zero}
 
 -- an aim reads nothing of zero

@@ -1,23 +1,7 @@
 -- Sums of worths, place by place.
 use Rattle.std.proofs.Common.{◌≡◌, ℕ, zero, suc, ◌+◌, ◌-◌, ◌<◌, ◌==◌, ℤ, pos, ◌+ℤ◌, ◌*ℤ◌, List, [], ◌∷◌, length, map, slice_index_or, slice_get, get_or, cond, Option, Some, None, refl, ap, sym, ◌∙◌, arith, subst}
-use Rattle.std.proofs.lemmas.Int.{ints}
-use Rattle.std.proofs.lemmas.List.Sums.{sum_by-cons}
-use Rattle.spa.specs.declared.TheConstants.{COMPONENTS, RANKS}
-use Rattle.spa.specs.Order.{sum_below, as_read, plus}
-use Rattle.spa.specs.declared.aim.Aim.{Aim}
-use Rattle.spa.specs.declared.aim.Aim.TheVariants.{Greedy, Generous}
-use Rattle.std.specs.Prelude.{neg_ℤ}
-use Rattle.spa.specs.Inside.Reading.{read_alike}
-use Rattle.spa.proofs.Aims.{read_sum}
-use Rattle.spa.specs.Shape.{Shape, IsPlaceOf, list_of, choice_at, project_quota, supervisor_quota}
-use Rattle.spa.specs.Matching.{Pair, pairs_from, rank, rank_in, weight, weight_row}
-use Rattle.spa.specs.Prices.{value}
+use Rattle.solver.proofs.Common.{ints, sum_by-cons, COMPONENTS, RANKS, sum_below, as_read, plus, Aim, Greedy, Generous, neg_ℤ, read_alike, read_sum, Shape, IsPlaceOf, list_of, choice_at, project_quota, supervisor_quota, Pair, pairs_from, rank, rank_in, weight, weight_row, value, Places, lex_ops, row, row-places_of, IsLexicographic, sum_of, multiple, price_total, worth_at, total_worth, worth_of, weighed_from, weighed}
 use Rattle.spa.proofs.Sums.{sum_below_same}
-use Rattle.spa.specs.Places.{Places, lex_ops, row}
-use Rattle.spa.specs.Inside.Places.{row-places_of}
-use Rattle.spa.specs.LexLaw.{IsLexicographic}
-use Rattle.network.specs.Seen.{sum_of, multiple, price_total, worth_at, total_worth}
-use Rattle.solver.specs.Inside.Weights.{worth_of, weighed_from, weighed}
 
 -- one pair more
 pair_weighs : (i : Shape) (t : ℕ) (e : Pair) (M : List Pair) → pos (weight (rank i e) t) +ℤ weight_row i M t ≡ weight_row i (e ∷ M) t

@@ -1,13 +1,6 @@
 -- The rows that the code makes of the weight of a pair, as each aim reads it.
 use Rattle.std.proofs.Common.{◌≡◌, ℕ, zero, suc, ◌+◌, ◌-◌, ◌<◌, ◌≤◌, ◌∷◌, length, set, replicate, cond, eqb, inl, inr, refl, ap, sym, arith, ◌∙◌, pos, get_or-set_other, get_or-set_same}
-use Rattle.std.specs.Prelude.{neg_ℤ}
-use Rattle.std.proofs.lemmas.List.{length-replicate, get_or-replicate}
-use Rattle.std.proofs.lemmas.Bool.{eq-eqb, ne_eqb, cases_eq}
-use Rattle.spa.specs.declared.aim.Aim.TheVariants.{Greedy, Generous}
-use Rattle.spa.specs.declared.TheConstants.{RANKS, COMPONENTS}
-use Rattle.spa.specs.Matching.{weight}
-use Rattle.spa.specs.Order.{as_read}
-use Rattle.spa.specs.Row.{at}
+use Rattle.solver.proofs.Common.{neg_ℤ, length-replicate, get_or-replicate, eq-eqb, ne_eqb, cases_eq, Greedy, Generous, RANKS, COMPONENTS, weight, as_read, at}
 use Rattle.verdict.proofs.PriceReads.{weights_of}
 
 -- a one for the size, and one at the rank

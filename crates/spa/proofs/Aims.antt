@@ -1,15 +1,7 @@
 -- The order of an aim is one that sums keep, and its unbeaten matchings are the best ones.
 use Rattle.std.proofs.Common.{◌≡◌, ℕ, zero, suc, ◌-◌, ◌<◌, inl, inr, refl, sym, ◌∙◌, ap, arith, ℤ, ◌≤ℤ◌, pos, List, length}
 use Rattle.std.proofs.Math.IntN.{neg_ℤ-+ℤ}
-use Rattle.std.proofs.lemmas.Int.{ints}
-use Rattle.std.proofs.lemmas.Bool.{cases_lt}
-use Rattle.spa.specs.declared.TheConstants.{RANKS, COMPONENTS}
-use Rattle.spa.specs.declared.aim.Aim.{Aim}
-use Rattle.spa.specs.declared.aim.Aim.TheVariants.{Greedy, Generous}
-use Rattle.spa.specs.Order.{as_read, ranks_read, order, plus}
-use Rattle.spa.specs.Inside.Reading.{read_alike}
-use Rattle.spa.specs.Shape.{Shape}
-use Rattle.spa.specs.Matching.{Pair, IsBest, IsUnbeaten, profile, weight_row}
+use Rattle.spa.proofs.Common.{ints, cases_lt, RANKS, COMPONENTS, Aim, Greedy, Generous, as_read, ranks_read, order, plus, read_alike, Shape, Pair, IsBest, IsUnbeaten, profile, weight_row}
 use Rattle.spa.proofs.Orders.{RowAtMost, RowAtMost_refl, RowAtMost_trans, RowAtMost-plus, at_most_from, not_before}
 use Rattle.spa.proofs.Duality.{IsSumOrder}
 

@@ -1,16 +1,8 @@
 -- What `Generous` needs: places of arrays, and what a generous aim reads of them.
 use Rattle.std.proofs.Common.{◌≡◌, ℕ, zero, suc, ◌-◌, ◌≤◌, ◌<◌, sym, ap, ◌∙◌, refl, arith, unsigned_abs}
-use Rattle.std.specs.Prelude.{ℤ, neg_ℤ, ◌+ℤ◌, ◌-ℤ◌, ◌<ℤ◌}
-use Rattle.std.proofs.lemmas.Int.{ints}
-use Rattle.spa.specs.declared.TheConstants.{RANKS, COMPONENTS}
-use Rattle.spa.specs.declared.aim.Aim.TheVariants.{Generous}
-use Rattle.spa.specs.Order.{Precedes, as_read}
+use Rattle.spa.proofs.Common.{ℤ, neg_ℤ, ◌+ℤ◌, ◌-ℤ◌, ◌<ℤ◌, ints, RANKS, COMPONENTS, Generous, Precedes, as_read, at, Places, places_of, row, lex_ops, row-places_of, read_alike}
 use Rattle.spa.specs.GenerousLaw.{OrdersByAim}
-use Rattle.spa.specs.Row.{at}
-use Rattle.spa.specs.Places.{Places, places_of, row, lex_ops}
-use Rattle.spa.specs.Inside.Places.{row-places_of}
 use Rattle.spa.specs.Reading.{value_read}
-use Rattle.spa.specs.Inside.Reading.{read_alike}
 use Rattle.spa.proofs.Aims.{read_sum}
 use Rattle.spa.proofs.LexOrder.{lex_less_is, row-plus, row-minus, span_at_most}
 use Rattle.spa.proofs.Rows.{plus_of, minus_of, le_span}

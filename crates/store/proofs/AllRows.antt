@@ -1,16 +1,6 @@
 -- The rows of all rolls, one after the other.
 use Rattle.std.proofs.Common.{◌≡◌, ◌≢◌, ◌⊎◌, inl, inr, ℕ, ◌+◌, ◌<◌, length, get_or, take, arith, List, [], ◌∷◌, ◌++◌, map, refl, sym, ap, subst, ◌∙◌, append-nil, IsTrue, true}
-use Rattle.std.proofs.lemmas.List.{take_all, take_more, get_or_default}
-use Rattle.sqlite_rules.specs.Lists.{Has}
-use Rattle.sqlite_rules.proofs.ListLemmas.{has_either, has_left, has_right, has_at}
-use Rattle.sqlite.specs.Order.{Row as Values}
-use Rattle.sqlite.specs.Effect.{Database}
-use Rattle.sqlite.specs.State.{State as Seen, IsUnchanged}
-use Rattle.row_model.specs.declared.table.Table.{Table}
-use Rattle.row_model.specs.Rows.{Cells, RowOf, of_table}
-use Rattle.store.specs.Rows.{values}
-use Rattle.store.specs.Inside.Reading.{HoldsColumns, ReadsTable, ReadsSome, HoldsNoRow, ReadsAll, HoldsUnread}
-use Rattle.tables.proofs.Runs.{decide_table}
+use Rattle.store.proofs.Common.{take_all, take_more, get_or_default, Has, has_either, has_left, has_right, has_at, Values, Database, Seen, IsUnchanged, Table, Cells, RowOf, of_table, values, HoldsColumns, ReadsTable, ReadsSome, HoldsNoRow, ReadsAll, HoldsUnread, decide_table}
 use Rattle.store.proofs.Among.{are_once, is_among, not_before, stands_among}
 use Rattle.store.proofs.CellByCell.{of_both}
 

@@ -1,23 +1,7 @@
 -- The tables of the editions: which is among which, and that none comes twice.
 use Rattle.std.proofs.Common.{◌≡◌, ◌≢◌, ◌⊎◌, inl, inr, ℕ, zero, suc, ◌<◌, List, [], ◌∷◌, ◌++◌, length, get_or, take, Bool, true, not, refl, sym, ap, ◌∙◌, arith, true≢false}
-use Rattle.std.specs.Prelude.{◌&&◌, ◌||◌, false}
-use Rattle.std.specs.Cmp.{first_so}
-use Rattle.std.specs.List.{list_any, list_all}
-use Rattle.std.proofs.lemmas.Bool.{and_parts, or_parts, not-true}
-use Rattle.std.proofs.lemmas.List.{get_or_default}
-use Rattle.sqlite_rules.specs.Lists.{Has}
-use Rattle.sqlite_rules.proofs.ListLemmas.{has_at, some_from}
-use Rattle.row_model.specs.declared.table.Table.{Table}
-use Rattle.row_model.specs.declared.table.Table.TheVariants.{Choice, Edition, Placement, RoundAim}
-use Rattle.row_model.specs.Rows.{IsPart, IsRow, PartOf, RowOf, are_of, kinds_of, of_table, same_table, shared_kinds}
-use Rattle.row_model.specs.Changes.{table_of}
-use Rattle.row_model.proofs.Tables.{same_table_is, same_table_self}
-use Rattle.tables.proofs.Runs.{decide_table}
-use Rattle.editions.specs.declared.Edition.{Edition as AnEdition}
-use Rattle.editions.specs.declared.Edition.TheVariants.{First, Second, Third}
-use Rattle.editions.specs.Editions.{HaveNoLater, olds}
-use Rattle.store.specs.Editions.{beyond, rolls_of}
-use Rattle.store.specs.Rows.{IsAmong, IsRollTable, rolls}
+use Rattle.store.proofs.Common.{◌&&◌, ◌||◌, false, first_so, list_any, list_all, and_parts, or_parts, not-true, get_or_default, Has, has_at, some_from, Table, Choice, Edition, Placement, RoundAim, IsPart, IsRow, PartOf, RowOf, are_of, kinds_of, of_table, same_table, shared_kinds, table_of, same_table_is, same_table_self, decide_table, AnEdition, First, Second, Third, HaveNoLater, olds, beyond, rolls_of, IsRollTable, rolls}
+use Rattle.store.specs.Rows.{IsAmong}
 
 unfoldable pub are_once : List Table → Bool
 are_once [] = true

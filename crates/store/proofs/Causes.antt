@@ -1,26 +1,9 @@
 -- Why a call of the store failed, from why the statement did on which it ended.
 use Rattle.std.proofs.Common.{◌≡◌, ◌≤◌, ◌<◌, ◌+◌, inl, inr, ℕ, List, [], ◌∷◌, ◌++◌, take, get_or, length, Option, Some, slice_get, refl, sym, ap, subst, ◌∙◌}
-use Rattle.std.proofs.lemmas.List.{take_more, take_all}
-use Rattle.sqlite.specs.Effect.{Database}
-use Rattle.sqlite.specs.State.{State as Seen, HasCleanDisk, Survives, IsUnchanged}
-use Rattle.tables.specs.declared.fault.TableFault.{TableFault}
+use Rattle.store.proofs.Common.{take_more, take_all, Database, Seen, HasCleanDisk, Survives, IsUnchanged, TableFault, Table, Edition, cases_Bool, Has, IsStopped, IsUnread, RowOf, ReadsSome, AnEdition, rolls_of, AreAllListed, table_at, stopped_after, stopped_as, Storage, IsHinderedAfter, IsHinderedReading, Ran}
 use Rattle.tables.specs.declared.fault.TableFault.TheVariants as fault
-use Rattle.row_model.specs.declared.table.Table.{Table}
-use Rattle.row_model.specs.declared.table.Table.TheVariants.{Edition}
-use Rattle.std.proofs.lemmas.Bool.{cases_Bool}
-use Rattle.sqlite_rules.specs.Lists.{Has}
-use Rattle.tables.specs.Causes.{IsStopped, IsUnread}
-use Rattle.row_model.specs.Rows.{RowOf}
-use Rattle.store.specs.Inside.Reading.{ReadsSome}
-use Rattle.editions.specs.declared.Edition.{Edition as AnEdition}
-use Rattle.store.specs.Editions.{rolls_of}
-use Rattle.store.specs.Reading.{AreAllListed}
 use Rattle.store.proofs.ListedTables.{is_next}
-use Rattle.tables.specs.Table.{table_at}
-use Rattle.tables.proofs.Causes.{stopped_after, stopped_as}
-use Rattle.store.specs.declared.fault.StoreFault.TheVariants.{Storage}
 use Rattle.store.specs.Inside.Faults.{of_table}
-use Rattle.store.specs.Causes.{IsHinderedAfter, IsHinderedReading, Ran}
 use Rattle.store.specs.Inside.Causes.{IsHinderedReadingIn}
 
 -- a fault of the storage is one of a statement

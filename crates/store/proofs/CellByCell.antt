@@ -1,20 +1,8 @@
 -- Rows that are read cell by cell, one row after another.
 use Rattle.std.proofs.Common.{◌≡◌, ◌≢◌, ◌<◌, ◌+◌, ℕ, zero, suc, List, [], ◌∷◌, ◌++◌, length, map, take, drop, get_or, true, cond, not, refl, sym, ap, subst, ◌∙◌, arith}
-use Rattle.std.specs.List.{AllByRecursion}
-use Rattle.std.specs.Cmp.{second_so}
-use Rattle.std.proofs.lemmas.Bool.{and_parts, and_from, false_from_ne_true}
-use Rattle.std.proofs.lemmas.List.{take_more, map-append}
+use Rattle.store.proofs.Common.{AllByRecursion, second_so, and_parts, and_from, false_from_ne_true, take_more, map-append, Null, Values, column, Cell, Table, Edition, Cells, RowOf, are_of, is_of, kinds_of, of_table, same_table, same_table_is, same_table_self, value_of, values, AreReadRows, IsNoRow, IsTyped, ReadsCells}
 use Rattle.std.proofs.lemmas.List.Elements.{filter-append}
-use Rattle.sqlite.specs.declared.types.Value.TheVariants.{Null}
-use Rattle.sqlite.specs.Order.{Row as Values, column}
-use Rattle.row_model.specs.declared.cell.Cell.{Cell}
 use Rattle.row_model.specs.declared.cell.Kind.{Kind}
-use Rattle.row_model.specs.declared.table.Table.{Table}
-use Rattle.row_model.specs.declared.table.Table.TheVariants.{Edition}
-use Rattle.row_model.specs.Rows.{Cells, RowOf, are_of, is_of, kinds_of, of_table, same_table}
-use Rattle.row_model.proofs.Tables.{same_table_is, same_table_self}
-use Rattle.store.specs.Rows.{value_of, values}
-use Rattle.store.specs.Inside.Reading.{AreReadRows, IsNoRow, IsTyped, ReadsCells}
 
 -- ---- a row
 

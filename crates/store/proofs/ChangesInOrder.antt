@@ -1,21 +1,8 @@
 -- Changes one after another.
 use Rattle.std.proofs.Common.{◌≡◌, ℕ, ◌+◌, ◌<◌, List, [], ◌∷◌, ◌++◌, length, get_or, take, refl, sym, ap, subst, ◌∙◌, Result, Ok, Err, OnOk, IsTrue}
-use Rattle.std.proofs.lemmas.List.{take_more}
-use Rattle.sqlite.specs.Effect.{Database}
+use Rattle.store.proofs.Common.{take_more, Database, Change, Add, Put, Remove, after_changes, table_of, after_both, Trees, HasStepped, HasSaved, MayRecoverTo, Stays, stays_none, stays_then, TablesHold, Schema, Has, Lists, table_at, AllNeed, AreInert, IsSaving, Needs, Spares}
 use Rattle.sqlite.specs.State.{State}
-use Rattle.row_model.specs.declared.row.Change.{Change}
-use Rattle.row_model.specs.declared.row.Change.TheVariants.{Add, Put, Remove}
-use Rattle.row_model.specs.Changes.{after_changes, table_of}
-use Rattle.change_laws.proofs.Changes.{after_both}
-use Rattle.sqlite.specs.Tree.{Trees}
-use Rattle.tables.specs.Steps.{HasStepped, HasSaved, MayRecoverTo}
-use Rattle.tables.specs.Inside.Steps.{Stays}
-use Rattle.tables.proofs.Runs.{stays_none, stays_then}
-use Rattle.store.specs.Tables.{TablesHold}
-use Rattle.sqlite.specs.Schema.{Schema}
-use Rattle.sqlite_rules.specs.Lists.{Has}
-use Rattle.tables.specs.Table.{Lists, table_at}
-use Rattle.store.specs.Saving.{AllNeed, AreInert, Applies, IsSaving, LeavesOthers, Needs, Saves, Spares}
+use Rattle.store.specs.Saving.{Applies, LeavesOthers, Saves}
 use Rattle.store.specs.Inside.Saving.{AppliesOne}
 
 -- no change applies nothing

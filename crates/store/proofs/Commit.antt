@@ -1,10 +1,7 @@
 -- What a transaction leaves of a connection once it is committed or dropped.
 use Rattle.std.proofs.Common.{◌≡◌, false, true, [], IsTrue, refl, sym, subst, ◌∙◌, arith}
-use Rattle.sqlite.specs.Effect.{Database, IsDatabase}
-use Rattle.sqlite.specs.State.{State as Seen, HasCleanDisk, IsUnchanged, KeepsCounts, Shows, Survives}
-use Rattle.sqlite.specs.Tree.{Trees}
-use Rattle.sqlite.proofs.StateLemmas.{survives_then}
-use Rattle.tables.specs.Steps.{HasSaved, HasStepped, MayRecoverTo}
+use Rattle.store.proofs.Common.{Database, IsDatabase, Seen, HasCleanDisk, IsUnchanged, KeepsCounts, Survives, Trees, survives_then, HasSaved, HasStepped, MayRecoverTo}
+use Rattle.sqlite.specs.State.{Shows}
 
 -- what a commit that went through did
 abbrev pub IsCommitted : Seen → Seen → Type 0

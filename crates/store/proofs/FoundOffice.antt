@@ -1,21 +1,7 @@
 -- The office of rows that were read in an edition, and the changes that migrate its tables.
 use Rattle.std.proofs.Common.{◌≡◌, Bool, true, false, cond, List, [], ◌∷◌, ◌++◌, map, filter, inr, refl}
-use Rattle.sqlite.specs.Schema.{Schema}
-use Rattle.sqlite.specs.State.{State as Seen}
-use Rattle.row_model.specs.declared.row.Change.{Change}
-use Rattle.row_model.specs.declared.row.Change.TheVariants.{Add}
-use Rattle.row_model.specs.Rows.{RowOf, of_table}
-use Rattle.rolls.specs.Fit.{IsFit}
-use Rattle.rolls.specs.Rows.{AreRowsOf}
-use Rattle.rolls.specs.State.{State}
-use Rattle.editions.specs.declared.Edition.{Edition as AnEdition}
-use Rattle.editions.specs.declared.Edition.TheVariants.{First, Second, Third}
-use Rattle.editions.specs.Editions.{RowsMigrate, ChangesMigrate, aims_of, is_old, olds, renaming_changes, migrated_rows, rows_in_edition, renamed_row, removal_of, migrating_changes}
-use Rattle.store.specs.Editions.{number_of, migrated, rolls_of}
+use Rattle.store.proofs.Common.{Schema, Seen, Change, Add, RowOf, of_table, IsFit, AreRowsOf, State, AnEdition, First, Second, Third, RowsMigrate, ChangesMigrate, aims_of, is_old, olds, renaming_changes, migrated_rows, rows_in_edition, renamed_row, removal_of, migrating_changes, number_of, migrated, rolls_of, AllNeed, AreLeftAmong, IsLeftAlone, AskMigrated, FindsOffice, HoldsRows}
 use Rattle.store.specs.Rows.{IsAmong}
-use Rattle.store.specs.Saving.{AllNeed, AreLeftAmong, IsLeftAlone}
-use Rattle.store.specs.Inside.Migrating.{AskMigrated}
-use Rattle.store.specs.Inside.Reading.{FindsOffice, HoldsRows}
 use Rattle.store.proofs.Among.{tested_among}
 use Rattle.store.proofs.Standing.{hold_same}
 

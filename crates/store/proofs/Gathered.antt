@@ -1,9 +1,7 @@
 -- The rows of all tables as one list.
 use Rattle.std.proofs.Common.{◌≡◌, List, [], ◌∷◌, ◌++◌, Bool, true, false, cond, map, refl, ap, ◌∙◌, append-nil}
-use Rattle.sqlite_keyed.proofs.ListLemmas.{all-map, map_back}
-use Rattle.row_model.specs.declared.table.Table.{Table}
-use Rattle.row_model.specs.declared.table.Table.TheVariants.{Edition}
-use Rattle.row_model.specs.Rows.{AllRows, Cells, RowOf, all_tables, of_table, same_table}
+use Rattle.store.proofs.Common.{all-map, map_back, Table, Edition, AllRows, Cells, RowOf, of_table, same_table}
+use Rattle.row_model.specs.Rows.{all_tables}
 use Rattle.change_laws.proofs.Keyed.{filter_alike}
 use Rattle.store.proofs.CellByCell.{of_both}
 

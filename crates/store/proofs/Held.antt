@@ -1,29 +1,9 @@
 -- What one statement makes of the tables: of the rows of its table what the change makes of them, and of the others nothing.
 use Rattle.std.proofs.Common.{◌≡◌, ◌≢◌, Bool, true, false, not, cond, List, [], ◌∷◌, filter, map, drop, refl, sym, ap, subst, ◌∙◌, true≢false}
-use Rattle.std.proofs.lemmas.List.{drop-map}
-use Rattle.sqlite_keyed.proofs.ListLemmas.{filter-map, filter_same}
-use Rattle.sqlite.specs.Effect.{Database}
-use Rattle.sqlite.specs.Order.{Row as Values}
-use Rattle.sqlite_rules.proofs.ListLemmas.{all_has}
-use Rattle.row_model.specs.declared.table.Table.{Table}
-use Rattle.row_model.specs.declared.table.Table.TheVariants.{Edition}
-use Rattle.row_model.specs.declared.row.Change.{Change}
-use Rattle.row_model.specs.declared.row.Change.TheVariants.{Add, Put, Remove}
-use Rattle.row_model.specs.Rows.{AllRows, Cells, IsPart, IsRow, PartOf, RowOf, key_in, same_table, shared_by}
-use Rattle.row_model.specs.Changes.{after_change, changed, is_in_part, makes, table_of}
-use Rattle.row_model.proofs.Tables.{same_table_self}
-use Rattle.change_laws.proofs.Changes.{by_table, change_elsewhere, change_here}
-use Rattle.tables.specs.Table.{table_at}
-use Rattle.tables.specs.Keyed.{Stands}
-use Rattle.tables.specs.Writes.{Enters, Leaves, Puts, Removes, WritesOnly, begins_with, goes_on}
-use Rattle.tables.proofs.Runs.{stands_apart}
+use Rattle.store.proofs.Common.{drop-map, filter-map, filter_same, Database, Values, all_has, Table, Edition, Change, Add, Put, Remove, AllRows, Cells, IsPart, IsRow, PartOf, RowOf, key_in, same_table, shared_by, after_change, changed, is_in_part, makes, table_of, same_table_self, by_table, change_elsewhere, change_here, table_at, Stands, Enters, Leaves, WritesOnly, begins_with, goes_on, stands_apart, InPlace, New, latest, number_of, IsRollTable, values, Spares, TablesHold, numbered, entry}
+use Rattle.tables.specs.Writes.{Puts, Removes}
 use Rattle.tables.specs.declared.statements.Entering.{Entering}
-use Rattle.tables.specs.declared.statements.Entering.TheVariants.{InPlace, New}
-use Rattle.store.specs.Editions.{latest, number_of}
-use Rattle.store.specs.Rows.{IsRollTable, values}
-use Rattle.store.specs.Saving.{Spares}
-use Rattle.store.specs.Tables.{TablesHold, numbered}
-use Rattle.store.specs.Inside.Saving.{AppliesOne, entry}
+use Rattle.store.specs.Inside.Saving.{AppliesOne}
 use Rattle.store.proofs.Begins.{begins_same}
 use Rattle.store.proofs.Among.{part_in_rolls, row_in_rolls}
 

@@ -1,12 +1,6 @@
 -- A table that is listed at a tree on which nothing acts.
 use Rattle.std.proofs.Common.{◌≡◌, ◌↔◌, ℕ, Bool, true, false, subst}
-use Rattle.sqlite.specs.Schema.{Schema}
-use Rattle.row_model.specs.declared.table.Table.{Table}
-use Rattle.tables.specs.Table.{table_at}
-use Rattle.tables.specs.Inert.{IsActedOn}
-use Rattle.tables.specs.Layout.{IsListed, IsUnlisted}
-use Rattle.tables.proofs.Runs.{listed_at_one}
-use Rattle.store.specs.Saving.{IsLeftAlone, IsActedOnAt}
+use Rattle.store.proofs.Common.{Schema, Table, table_at, IsActedOn, IsListed, IsUnlisted, listed_at_one, IsLeftAlone, IsActedOnAt}
 
 -- nor on one that is listed nowhere
 pub left_nowhere : (table : Table) (schema : Schema) → IsUnlisted (table_at table) schema → IsLeftAlone table schema

@@ -1,3 +1,4 @@
+mod Common
 mod Among
 mod Begins
 mod Permutation

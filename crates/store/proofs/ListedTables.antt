@@ -1,21 +1,7 @@
 -- What is listed, and what one row says of the edition.
 use Rattle.std.proofs.Common.{◌≡◌, ◌≢◌, ◌⊎◌, inl, inr, ℕ, ◌+◌, ◌<◌, List, [], ◌∷◌, length, get_or, take, map, drop, refl, sym, ap, subst, ◌∙◌, arith}
-use Rattle.std.proofs.lemmas.List.{take_more, take_all, get_or_default}
-use Rattle.sqlite_rules.proofs.ListLemmas.{has_either, has_at}
-use Rattle.sqlite.specs.Order.{Row as Values}
-use Rattle.sqlite.specs.Schema.{Schema}
-use Rattle.sqlite.specs.State.{State as Seen}
-use Rattle.sqlite_rules.specs.Lists.{Has}
-use Rattle.row_model.specs.declared.table.Table.{Table}
-use Rattle.row_model.specs.declared.table.Table.TheVariants.{Edition}
-use Rattle.tables.specs.Table.{Place, Lists, rules_of, table_at}
-use Rattle.tables.specs.Layout.{IsListed, IsUnlisted}
-use Rattle.tables.specs.Steps.{Shows}
-use Rattle.tables.proofs.Runs.{listed_at_one}
+use Rattle.store.proofs.Common.{take_more, take_all, get_or_default, has_either, has_at, Values, Schema, Seen, Has, Table, Edition, Place, Lists, rules_of, table_at, IsListed, IsUnlisted, Shows, listed_at_one, IsAmong, AreAllListed, IsAlone, IsElsewhere, IsListedAlone, IsNoRow, HoldsNoRow}
 use Rattle.store.proofs.Among.{among_or_not}
-use Rattle.store.specs.Rows.{IsAmong}
-use Rattle.store.specs.Reading.{AreAllListed}
-use Rattle.store.specs.Inside.Reading.{IsAlone, IsElsewhere, IsListedAlone, IsNoRow, HoldsNoRow}
 
 -- what holds of this many, and of the next, holds of one more
 pub so_far : {X : Type 0} (P : X → Type 0) (all : List X) (i : ℕ) (d : X) → i < length all → ((x : X) → Has (take i all) x → P x) → P (get_or all i d) → (x : X) → Has (take (i + 1) all) x → P x

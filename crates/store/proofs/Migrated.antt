@@ -1,37 +1,13 @@
 -- Tables of an earlier edition are migrated: the number is another, tables come next to those that stand, and rows are added.
 use Rattle.std.proofs.Common.{◌≡◌, ◌≢◌, ◌↔◌, IsTrue, arith, ◌⊎◌, inl, inr, ℕ, pos, Bool, true, false, cond, List, [], ◌∷◌, ◌++◌, map, Option, refl, sym, ap, subst, ◌∙◌, true≢false}
-use Rattle.std.specs.Prelude.{◌&&◌}
-use Rattle.sqlite.specs.declared.types.Value.TheVariants.{Int}
-use Rattle.sqlite.specs.Effect.{Database}
-use Rattle.sqlite.specs.Order.{Row as Values}
-use Rattle.sqlite.specs.Schema.{Schema}
-use Rattle.sqlite.specs.State.{State as Seen, HasCleanDisk, IsUnchanged, Survives}
-use Rattle.sqlite.specs.Table.{Table as AnyTable}
-use Rattle.sqlite_rules.specs.Lists.{Has}
-use Rattle.sqlite_rules.proofs.ListLemmas.{all_has, has_either, has_got}
-use Rattle.row_model.specs.declared.row.Change.{Change}
-use Rattle.row_model.specs.Rows.{AllRows}
-use Rattle.editions.specs.declared.Edition.{Edition as AnEdition}
-use Rattle.editions.specs.declared.Edition.TheVariants.{First, Second, Third}
-use Rattle.row_model.specs.declared.table.Table.{Table}
-use Rattle.row_model.specs.declared.table.Table.TheVariants.{Edition}
-use Rattle.tables.specs.Table.{Place, Lists, table_at}
-use Rattle.tables.specs.Inert.{IsActedOn}
-use Rattle.tables.specs.Keyed.{Stands}
+use Rattle.store.proofs.Common.{◌&&◌, Int, Database, Values, Schema, Seen, HasCleanDisk, IsUnchanged, Survives, AnyTable, Has, all_has, has_either, has_got, Change, AllRows, AnEdition, First, Second, Third, Table, Edition, Place, Lists, table_at, IsActedOn, Stands, IsStopped, stopped_before, Stays, HasStepped, with_row, listed_at_one, listed_once, stands_kept, stands_apart, stepped_as, latest_number, beyond, latest, number_of, migrated, rolls_of, IsRollTable, rolls, values, AreActedOnAmong, AreLeftAmong, IsLeftAlone, Spares, MakesTables, TablesHold, TablesOf, numbered}
 use Rattle.tables.proofs.Quiet.{inert_so}
-use Rattle.tables.specs.Causes.{IsStopped}
-use Rattle.tables.proofs.Causes.{stopped_before}
-use Rattle.tables.specs.Inside.Steps.{Stays}
-use Rattle.tables.specs.Steps.{HasStepped}
-use Rattle.tables.specs.Writes.{Puts, with_row}
-use Rattle.tables.proofs.Runs.{listed_at_one, listed_once, stands_kept, stands_apart, stepped_as}
+use Rattle.tables.specs.Writes.{Puts}
 use Rattle.store.proofs.Causes.{unchanged_before}
 use Rattle.store.proofs.Commit.{dropped_by}
-use Rattle.store.specs.Causes.{latest_number}
-use Rattle.store.specs.Editions.{beyond, latest, number_of, migrated, rolls_of}
-use Rattle.store.specs.Rows.{IsAmong, IsRollTable, rolls, values}
-use Rattle.store.specs.Saving.{Applies, AreActedOnAmong, AreLeftAmong, IsLeftAlone, Spares}
-use Rattle.store.specs.Tables.{AreRuledAmong, LeavesTables, MakesTables, TablesHold, TablesOf, numbered}
+use Rattle.store.specs.Rows.{IsAmong}
+use Rattle.store.specs.Saving.{Applies}
+use Rattle.store.specs.Tables.{AreRuledAmong, LeavesTables}
 use Rattle.store.specs.Inside.Migrating.{AddsTables, LiftsEdition, Rises}
 use Rattle.store.proofs.Standing.{stand_as}
 use Rattle.store.proofs.Among.{among_or_not, fresh_beyond, has_left, is_among, old_among, stands_among}

@@ -1,27 +1,7 @@
 -- The tables that were made stand for the empty office.
 use Rattle.std.proofs.Common.{◌≡◌, ◌≢◌, ◌⊎◌, ◌+◌, ◌<◌, ◌≤◌, ◌++◌, ℕ, List, [], ◌∷◌, length, get_or, take, inl, inr, map, refl, sym, ap, subst, ◌∙◌}
-use Rattle.std.proofs.lemmas.List.{take_more, take_all}
-use Rattle.sqlite.specs.Effect.{Database}
-use Rattle.sqlite.specs.Schema.{Schema}
-use Rattle.sqlite.specs.Table.{Table as AnyTable}
-use Rattle.sqlite.specs.State.{State as Seen}
-use Rattle.sqlite.specs.Tree.{Trees}
-use Rattle.sqlite.specs.declared.types.Value.{Value}
-use Rattle.sqlite_rules.specs.Lists.{Has}
-use Rattle.sqlite_rules.proofs.ListLemmas.{all_has, has_either, has_got}
-use Rattle.rolls.specs.Rows.{rows_in}
-use Rattle.rolls.specs.State.{State, empty}
-use Rattle.row_model.specs.declared.table.Table.{Table}
-use Rattle.row_model.specs.declared.table.Table.TheVariants.{Edition, Supervisor}
-use Rattle.tables.specs.Table.{Place, Lists, rules_of, table_at}
-use Rattle.tables.specs.Keyed.{Stands}
-use Rattle.tables.specs.Writes.{Creates, Adds}
-use Rattle.tables.specs.Steps.{HasStepped, MayRecoverTo}
-use Rattle.tables.specs.Inside.Steps.{Stays}
-use Rattle.tables.proofs.Runs.{listed_once, stands_apart, stands_beside, stays_none, stays_then, stays_stepped, decide_table}
-use Rattle.store.specs.Editions.{latest, number_of}
-use Rattle.store.specs.Rows.{all_tables, rolls, values}
-use Rattle.store.specs.Tables.{AreRuled, AreRuledAmong, Brings, LeavesTables, MakesTables, StandsFor, HasNone, Opens, numbered}
+use Rattle.store.proofs.Common.{take_more, take_all, Database, Schema, AnyTable, Seen, Trees, Value, Has, all_has, has_either, has_got, rows_in, State, empty, Table, Edition, Supervisor, Place, Lists, rules_of, table_at, Stands, Creates, Adds, HasStepped, MayRecoverTo, Stays, listed_once, stands_apart, stands_beside, stays_none, stays_then, stays_stepped, decide_table, latest, number_of, all_tables, rolls, values, AreRuled, Brings, MakesTables, StandsFor, HasNone, Opens, numbered}
+use Rattle.store.specs.Tables.{AreRuledAmong, LeavesTables}
 use Rattle.store.specs.Inside.Tables.{Empties}
 use Rattle.store.proofs.Among.{apart_edition, stands_among}
 

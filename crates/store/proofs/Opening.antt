@@ -1,31 +1,11 @@
 -- What comes of an opening: the office that was read, in the latest edition or migrated to it.
 use Rattle.std.proofs.Common.{◌≡◌, ◌≢◌, ◌<◌, ◌≤◌, List, Result, Ok, Err, IfErr, ap, inl, inr, refl, sym, subst, ◌∙◌, arith}
-use Rattle.sqlite.specs.Held.{Held}
+use Rattle.store.proofs.Common.{Held, Seen, HasCleanDisk, IsUnchanged, Survives, Database, Trees, Schema, survives_then, Change, State, AnEdition, First, Second, Third, rows_in_edition, HasSaved, IsKept, MayRecoverTo, IsStopped, Lists, stopped_after, IsHinderedOpening, IsHinderedToMigrate, IsEarlier, beyond, latest, number_of, rolls_of, IsEditionOf, IsDamaged, IsUnfitIn, Damaged, Storage, Brings, HasNone, HasNoneOf, HoldIn, Opens, Migrates, StandsIn, FindsOffice}
 use Rattle.sqlite_trees.specs.declared.store.Store.{Ghosts}
-use Rattle.sqlite.specs.State.{State as Seen, HasCleanDisk, IsUnchanged, Survives}
-use Rattle.sqlite.specs.Effect.{Database}
-use Rattle.sqlite.specs.Tree.{Trees}
-use Rattle.sqlite.specs.Schema.{Schema}
-use Rattle.sqlite.proofs.StateLemmas.{survives_then}
-use Rattle.row_model.specs.declared.row.Change.{Change}
-use Rattle.rolls.specs.State.{State}
-use Rattle.editions.specs.declared.Edition.{Edition as AnEdition}
-use Rattle.editions.specs.declared.Edition.TheVariants.{First, Second, Third}
-use Rattle.editions.specs.Editions.{rows_in_edition}
-use Rattle.tables.specs.Steps.{HasSaved, IsKept, MayRecoverTo}
-use Rattle.tables.specs.Causes.{IsStopped}
-use Rattle.tables.specs.Table.{Lists}
-use Rattle.tables.proofs.Causes.{stopped_after}
-use Rattle.store.specs.Causes.{IsHinderedOpening, IsHinderedToMigrate}
-use Rattle.store.specs.Editions.{IsEarlier, beyond, latest, number_of, rolls_of}
-use Rattle.store.specs.Inside.Editions.{IsEditionOf}
-use Rattle.store.specs.Reading.{IsDamaged, IsUnfitIn}
 use Rattle.store.specs.declared.fault.StoreFault.{StoreFault}
-use Rattle.store.specs.declared.fault.StoreFault.TheVariants.{Damaged, Storage}
 use Rattle.store.specs.Opening.{IsLeftUnopened}
-use Rattle.store.specs.Tables.{Brings, HasNone, HasNoneOf, HoldIn, LeavesTables, Opens, Migrates, StandsIn}
+use Rattle.store.specs.Tables.{LeavesTables}
 use Rattle.store.specs.Inside.Migrating.{Rises}
-use Rattle.store.specs.Inside.Reading.{FindsOffice}
 use Rattle.store.proofs.Standing.{hold_same}
 use Rattle.store.proofs.SameTrees.{not_beyond, one_or_apart}
 

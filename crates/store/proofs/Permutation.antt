@@ -1,15 +1,7 @@
 -- Rows in another order.
 use Rattle.std.proofs.Common.{◌≡◌, inl, inr, List, [], ◌∷◌, map, refl, ap, subst₂, ◌∙◌, pos, length, arith}
-use Rattle.std.specs.List.Sorted.{IsPermutation}
-use Rattle.std.proofs.lemmas.List.Sorted.{IsPermutation-map, length_permutation}
-use Rattle.sqlite_keyed.proofs.ListLemmas.{along_permutation, map_back}
-use Rattle.sqlite.specs.declared.types.Value.{Value}
+use Rattle.store.proofs.Common.{IsPermutation, IsPermutation-map, length_permutation, along_permutation, map_back, Value, Has, Cell, Text, Number, Bytes, Cells, value_of, values}
 use Rattle.sqlite.specs.declared.types.Value.TheVariants as value
-use Rattle.sqlite_rules.specs.Lists.{Has}
-use Rattle.row_model.specs.declared.cell.Cell.{Cell}
-use Rattle.row_model.specs.declared.cell.Cell.TheVariants.{Text, Number, Bytes}
-use Rattle.row_model.specs.Rows.{Cells}
-use Rattle.store.specs.Rows.{value_of, values}
 
 module _ {X : Type 0} where
   abbrev Among : List X → List X → Type 0

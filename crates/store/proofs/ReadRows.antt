@@ -1,31 +1,8 @@
 -- What was read from the tables says whether they stand for a fit office.
 use Rattle.std.proofs.Common.{◌≡◌, ◌≢◌, ℕ, List, [], ◌∷◌, map, drop, refl, sym, ap, subst, nat_lt, ◌^◌, true, IsTrue, length, arith, inl, inr, pos, get_or, ◌∙◌}
-use Rattle.std.specs.List.Sorted.{IsPermutation}
-use Rattle.std.proofs.lemmas.List.Sorted.{IsPermutation-trans, IsPermutation-sym, length_permutation}
-use Rattle.sqlite_rules.specs.Lists.{Has}
-use Rattle.sqlite.specs.Order.{Row as Values, column}
-use Rattle.sqlite.specs.declared.types.Value.{Value}
-use Rattle.sqlite.specs.declared.types.Value.TheVariants.{Int}
-use Rattle.sqlite.specs.Effect.{Database}
-use Rattle.sqlite.specs.State.{State as Seen, IsLive}
-use Rattle.tables.specs.Table.{Place, Lists, table_at}
-use Rattle.tables.specs.Keyed.{Stands}
-use Rattle.tables.specs.Steps.{Shows}
-use Rattle.tables.proofs.Runs.{low_tree}
-use Rattle.rolls.specs.State.{State}
-use Rattle.row_model.specs.declared.table.Table.{Table}
-use Rattle.row_model.specs.declared.table.Table.TheVariants.{Edition}
-use Rattle.row_model.specs.Rows.{AllRows, RowOf, of_table}
-use Rattle.editions.specs.declared.Edition.{Edition as AnEdition}
-use Rattle.editions.specs.Editions.{AreRowsIn, rows_in_edition}
-use Rattle.store.specs.Editions.{number_of, rolls_of}
-use Rattle.store.specs.Rows.{IsAmong, values}
-use Rattle.store.specs.Tables.{HoldIn, StandsIn, numbered}
-use Rattle.store.specs.Reading.{AreAllListed, IsUnfitIn}
-use Rattle.store.specs.Inside.Reading.{HoldsColumns, HoldsNoRow}
+use Rattle.store.proofs.Common.{IsPermutation, IsPermutation-trans, IsPermutation-sym, length_permutation, Has, Values, column, Value, Int, Database, Seen, IsLive, Place, Lists, table_at, Stands, Shows, low_tree, State, Table, Edition, AllRows, RowOf, of_table, AnEdition, AreRowsIn, rows_in_edition, number_of, rolls_of, IsAmong, values, HoldIn, StandsIn, numbered, AreAllListed, IsUnfitIn, HoldsColumns, HoldsNoRow, IsPermutation-same}
 use Rattle.store.proofs.Among.{among_or_not}
 use Rattle.store.proofs.Permutation.{has_permuted, rows_permuted}
-use Rattle.sqlite_keyed.proofs.ListLemmas.{IsPermutation-same}
 use Rattle.store.proofs.Fitness.{fit_rows, one_of_all}
 
 -- three columns, of which the first is the rowid

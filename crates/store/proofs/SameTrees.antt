@@ -1,29 +1,8 @@
 -- Two databases with the same trees list the same tables, so these hold the same rows, in one edition, and the rows determine the office.
 use Rattle.std.proofs.Common.{◌≡◌, ◌⊎◌, ◌<◌, arith, ℕ, List, refl, sym, subst, ◌∙◌, map, inl, inr}
-use Rattle.std.specs.List.Sorted.{IsPermutation}
-use Rattle.std.proofs.lemmas.List.Sorted.{IsPermutation-trans, IsPermutation-sym}
-use Rattle.sqlite_keyed.proofs.ListLemmas.{IsPermutation-same}
-use Rattle.sqlite.specs.Effect.{Database, IsDatabase}
-use Rattle.sqlite.specs.Order.{Row as Values}
-use Rattle.sqlite.specs.Table.{Table as AnyTable}
-use Rattle.sqlite_rules.specs.Lists.{Has}
-use Rattle.row_model.specs.declared.table.Table.{Table}
-use Rattle.row_model.specs.declared.table.Table.TheVariants.{Choice, Edition, RoundAim}
-use Rattle.tables.specs.Table.{Place, cells, table_at}
-use Rattle.tables.specs.Keyed.{Stands}
+use Rattle.store.proofs.Common.{IsPermutation, IsPermutation-trans, IsPermutation-sym, IsPermutation-same, Database, IsDatabase, Values, AnyTable, Has, Table, Choice, Edition, RoundAim, Place, cells, table_at, Stands, listed_once, AllRows, RowOf, SameRows, of_table, IsFit, AreRowsOf, State, AnEdition, First, Second, Third, HaveNoLater, RowsMigrate, migrated_rows, rows_in_edition, all_tables, values, beyond, latest, number_of, rolls_of, HasNoneOf, HoldIn, Opens, StandsIn, TablesOf, numbered}
 use Rattle.tables.proofs.SameTrees.{listed_so, stands_so}
-use Rattle.tables.proofs.Runs.{listed_once}
-use Rattle.row_model.specs.Rows.{AllRows, RowOf, SameRows, of_table}
 use Rattle.change_laws.specs.Laws.{RowsGiveOffice}
-use Rattle.rolls.specs.Fit.{IsFit}
-use Rattle.rolls.specs.Rows.{AreRowsOf}
-use Rattle.rolls.specs.State.{State}
-use Rattle.editions.specs.declared.Edition.{Edition as AnEdition}
-use Rattle.editions.specs.declared.Edition.TheVariants.{First, Second, Third}
-use Rattle.editions.specs.Editions.{HaveNoLater, RowsMigrate, migrated_rows, rows_in_edition}
-use Rattle.store.specs.Rows.{all_tables, values}
-use Rattle.store.specs.Editions.{beyond, latest, number_of, rolls_of}
-use Rattle.store.specs.Tables.{HasNoneOf, HoldIn, Opens, StandsIn, TablesOf, numbered}
 use Rattle.store.proofs.Among.{among_or_not, is_among}
 use Rattle.store.proofs.Gathered.{gathered, of_gathered}
 use Rattle.store.proofs.Standing.{in_latest, stand_as}

@@ -1,16 +1,6 @@
 -- Tables that hold rows, seen anew: under another number, in another database, in another order.
 use Rattle.std.proofs.Common.{ℕ, List, map}
-use Rattle.std.proofs.lemmas.List.Sorted.{IsPermutation-map, IsPermutation-sym, IsPermutation-trans}
-use Rattle.sqlite.specs.Effect.{Database}
-use Rattle.rolls.specs.State.{State}
-use Rattle.row_model.specs.declared.table.Table.{Table}
-use Rattle.row_model.specs.declared.table.Table.TheVariants.{Edition}
-use Rattle.row_model.specs.Rows.{AllRows, SameRows}
-use Rattle.tables.specs.Table.{table_at}
-use Rattle.tables.specs.Keyed.{Stands}
-use Rattle.store.specs.Editions.{latest}
-use Rattle.store.specs.Rows.{IsAmong, values}
-use Rattle.store.specs.Tables.{StandsFor, StandsIn, TablesOf, numbered}
+use Rattle.store.proofs.Common.{IsPermutation-map, IsPermutation-sym, IsPermutation-trans, Database, State, Table, Edition, AllRows, SameRows, table_at, Stands, latest, IsAmong, values, StandsFor, StandsIn, TablesOf, numbered}
 use Rattle.store.proofs.Permutation.{none_permuted}
 
 -- the same places, where each table stands in another database

@@ -3,15 +3,8 @@ use Rattle.std.proofs.Common.{◌≡◌, ◌⊎◌, ◌≤◌, inl, inr, ℕ, Bo
 use Rattle.sqlite_disk.specs.Disk.{MoreFaults}
 use Rattle.sqlite_trees.specs.declared.error.StoreError.{StoreError}
 use Rattle.sqlite_trees.specs.declared.error.StoreError.TheVariants.{OutOfMemory, Io, Corrupt, Full, Broken, Unstorable}
-use Rattle.sqlite_resolve.specs.declared.compiled.Compiled.{Compiled}
-use Rattle.sqlite.specs.declared.error.Error.{Error}
-use Rattle.sqlite.specs.Order.{Row}
-use Rattle.sqlite.specs.Effect.{Database}
-use Rattle.sqlite.specs.State.{State, HasCleanDisk, Survives, Fails, HasCause as HasReason, IsStatement, IsUnchanged, IsRolledBack, IsNotRun, RunsCommand, ExecutesIn, ExecutesInside, EndsScope, shows_rows, store_error}
-use Rattle.tables.specs.declared.fault.TableFault.TheVariants.{Storage}
-use Rattle.tables.specs.Faults.{fault_of}
-use Rattle.std.proofs.lemmas.Bool.{cases_Bool}
-use Rattle.tables.specs.Causes.{Moment, at_moment, IsStopped}
+use Rattle.tables.proofs.Common.{Compiled, Error, Row, Database, State, HasCleanDisk, Survives, Fails, HasReason, IsStatement, IsUnchanged, IsRolledBack, RunsCommand, ExecutesInside, shows_rows, store_error, Storage, fault_of, cases_Bool, Moment, at_moment, IsStopped}
+use Rattle.sqlite.specs.State.{IsNotRun, ExecutesIn, EndsScope}
 
 -- the connection was shut, or the disk failed once more, or this
 abbrev pub Ended : State → State → Type 0 → Type 0

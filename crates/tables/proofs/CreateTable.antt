@@ -1,39 +1,9 @@
 -- CREATE TABLE under any schema.
 use Rattle.std.proofs.Common.{◌≡◌, inl, inr, ℕ, ◌+◌, List, [], ◌∷◌, length, map, ◌≢◌, slice_get, slice_range, arith, ◌||◌, Option, Some, None, is_some, Ok, Err, Bool, true, false, refl, sym, ap, subst, ◌∙◌, if◌then◌else◌}
-use Rattle.std.proofs.lemmas.Bool.{cases_Bool}
-use Rattle.sqlite.specs.Schema.{Schema}
-use Rattle.sqlite.specs.Compile.{table_defined_by, compiled, first, timed, returning, command, small, creates, is_reserved, is_attached, with_command}
-use Rattle.sqlite.specs.Calls.{IsWrite}
-use Rattle.sqlite.specs.Command.{Command}
-use Rattle.sqlite.specs.Command.TheVariants.{CreateTable, Nothing}
-use Rattle.sqlite.specs.Listing.{listing_schema, if_select}
-use Rattle.sqlite_resolve.specs.declared.error.CompileError.TheVariants.{NoSuchTable, Misuse, Exists, Unsupported}
-use Rattle.sqlite_resolve.specs.Lowering.{Checked, and_then}
-use Rattle.sqlite_syntax.specs.declared.statement.Parsed.{Parsed}
-use Rattle.std.specs.Option.{option_or}
-use Rattle.sqlite_schema.specs.Names.{same_name, table_named, view_named, index_named}
-use Rattle.sqlite.specs.State.{State, Executes, text_of}
-use Rattle.sqlite.specs.Table.{Table}
-use Rattle.std.proofs.lemmas.List.Sorted.{IsPermutation-refl}
-use Rattle.std.specs.List.Sorted.{IsPermutation}
-use Rattle.tables.specs.Keyed.{IsKeyed}
-use Rattle.sqlite.specs.Tree.{Trees}
-use Rattle.sqlite.specs.Change.{created, next_tree, is_used}
-use Rattle.sqlite.specs.Effect.{Database}
-use Rattle.sqlite.specs.Rows.{Outcome}
-use Rattle.sqlite.specs.Does.{Tally, lacks_sequence, MakesSequence, sequence_text}
-use Rattle.sqlite_catalog.specs.Calls.{CreatesTable}
-use Rattle.sqlite_catalog.proofs.StepLemmas.{table_below}
-use Rattle.sqlite_rules.specs.Lists.{Has}
-use Rattle.sqlite_rules.proofs.ListLemmas.{has_got, all_has}
-use Rattle.sqlite_resolve.specs.declared.compiled.Compiled.{Compiled}
-use Rattle.tables.specs.Table.{Place, Rules, TableShape, Lists, all_referring, cells, made_at}
-use Rattle.tables.specs.Inert.{IsActedOn}
+use Rattle.tables.proofs.Common.{cases_Bool, Schema, table_defined_by, compiled, first, timed, returning, command, small, is_reserved, is_attached, with_command, IsWrite, Command, CreateTable, Nothing, listing_schema, if_select, NoSuchTable, Misuse, Exists, Unsupported, Checked, and_then, Parsed, option_or, same_name, table_named, view_named, index_named, State, Executes, text_of, Table, IsPermutation-refl, IsPermutation, IsKeyed, Trees, created, next_tree, is_used, Database, Outcome, Tally, lacks_sequence, MakesSequence, sequence_text, CreatesTable, table_below, Has, has_got, all_has, Compiled, Place, Rules, TableShape, Lists, all_referring, cells, made_at, IsActedOn, NoAction, Reference, Creates}
+use Rattle.sqlite.specs.Compile.{creates}
 use Rattle.tables.proofs.Quiet.{AreAllPassive, acted_before}
-use Rattle.sqlite_schema.specs.declared.schema.Action.TheVariants.{NoAction}
-use Rattle.sqlite_schema.specs.declared.schema.Reference.{Reference}
 use Rattle.sqlite_tied.specs.Compute.{everything}
-use Rattle.tables.specs.Writes.{Creates}
 use Rattle.tables.proofs.MoreTables.{still_found, new_found, got_front, got_next}
 use Rattle.tables.proofs.InsertKeyed.{went, same_value}
 use Rattle.tables.proofs.Understood.{planned_of, Means, IsWriteText, runs_by}

@@ -1,33 +1,8 @@
 -- DELETE of the rows that the given values find.
 use Rattle.std.proofs.Common.{◌≡◌, ℕ, length, List, [], ◌∷◌, slice_get, Option, Some, None, Ok, sym, ap, subst, ◌∙◌, Bool, true, not, map, filter}
-use Rattle.std.specs.List.Sorted.{IsPermutation}
-use Rattle.std.proofs.lemmas.List.Sorted.{IsPermutation-map}
-use Rattle.sqlite_keyed.proofs.ListLemmas.{IsPermutation-filter, map-map}
-use Rattle.sqlite.specs.Schema.{Schema}
-use Rattle.sqlite.specs.Table.{Table}
-use Rattle.sqlite.specs.Order.{Row}
+use Rattle.tables.proofs.Common.{IsPermutation, IsPermutation-map, IsPermutation-filter, map-map, Schema, Table, Row, Expr, deleted, Program, Delete, State, Executes, mode_of, rowid, Database, Answers, Written, Tally, Does, Mode, edit_of, Applies, id_in, Given, ids_of, works, one_step, Kind, Cells, are_of, Place, TableShape, cells, made_at, values, id_of, IsKeyed}
 use Rattle.sqlite_ast.specs.declared.Statement.TheVariants as written
-use Rattle.sqlite_ast.specs.declared.Expr.{Expr}
-use Rattle.sqlite_resolve.specs.Write.{deleted}
 use Rattle.sqlite_sql.specs.Term.{Term, col}
-use Rattle.sqlite_schema.specs.declared.program.Program.{Program}
-use Rattle.sqlite.specs.Command.TheVariants.{Delete}
-use Rattle.sqlite.specs.State.{State, Executes, mode_of}
-use Rattle.sqlite.specs.Tree.{rowid}
-use Rattle.sqlite.specs.Effect.{Database, Answers}
-use Rattle.sqlite.specs.Rows.{Written}
-use Rattle.sqlite.specs.Does.{Tally, Does}
-use Rattle.sqlite.specs.declared.run.Mode.{Mode}
-use Rattle.sqlite.specs.Edit.{edit_of, Applies, id_in}
-use Rattle.sqlite.specs.Rowids.TheVariants.{Given}
-use Rattle.sqlite_rules.specs.Calls.{ids_of}
-use Rattle.sqlite_rules.specs.Action.{works}
-use Rattle.sqlite.proofs.Callers.{one_step}
-use Rattle.row_model.specs.declared.cell.Kind.{Kind}
-use Rattle.row_model.specs.Rows.{Cells, are_of}
-use Rattle.tables.specs.Table.{Place, TableShape, cells, made_at, values}
-use Rattle.tables.specs.Inside.Keyed.{id_of}
-use Rattle.tables.specs.Keyed.{IsKeyed}
 use Rattle.tables.specs.Writes.{Removes}
 use Rattle.tables.proofs.Places.{listed_along}
 use Rattle.tables.proofs.InsertKeyed.{went, same_value}

@@ -1,21 +1,8 @@
 -- A statement that is refused is refused by the disk, for a shut connection, or for what its text does, where that is a write.
 use Rattle.std.proofs.Common.{◌≡◌, inl, inr, ℕ, ◌≤◌, List, [], length, Option, Some, None, Ok, Err, ◌||◌, false, sym, ap, subst, ◌∙◌, append-nil, refl}
-use Rattle.std.proofs.lemmas.Bool.{cases_Bool}
-use Rattle.sqlite.specs.declared.error.Error.{Error}
-use Rattle.sqlite.specs.Order.{Row}
-use Rattle.sqlite.specs.Calls.{IsWrite}
-use Rattle.sqlite.specs.Command.{Command}
-use Rattle.sqlite.specs.Command.TheVariants.{Select, Rows, Begin, Commit, Rollback, Release, RollbackTo}
-use Rattle.sqlite.specs.Effect.{is_query}
-use Rattle.sqlite.specs.Does.{Does}
-use Rattle.sqlite.specs.Clock.{timed as at_time}
-use Rattle.sqlite.specs.Listing.{understood}
-use Rattle.sqlite.specs.State.{State, IsMisplaced, IsStatement, IsNoStatement, IsNotRun, RunsAlone, RunsCommand, ExecutesIn, ExecutesInside, EndsScope, is_pragma, text_of, shows_rows}
-use Rattle.sqlite_resolve.specs.declared.compiled.Compiled.{Compiled}
-use Rattle.tables.specs.declared.fault.TableFault.TheVariants.{Storage}
-use Rattle.tables.specs.Faults.{fault_of}
-use Rattle.tables.specs.Causes.{IsStopped}
-use Rattle.tables.specs.Inside.Causes.{IsHindered, IsText, IsWriteOf, plain_mode}
+use Rattle.tables.proofs.Common.{cases_Bool, Error, Row, IsWrite, Command, Begin, Commit, Rollback, Release, RollbackTo, is_query, Does, at_time, understood, State, IsMisplaced, IsStatement, IsNoStatement, RunsAlone, RunsCommand, ExecutesInside, is_pragma, text_of, shows_rows, Compiled, Storage, fault_of, IsStopped, IsHindered, IsText, IsWriteOf, plain_mode}
+use Rattle.sqlite.specs.Command.TheVariants.{Select, Rows}
+use Rattle.sqlite.specs.State.{IsNotRun, ExecutesIn, EndsScope}
 use Rattle.tables.proofs.Causes.{Ended, failed, either}
 
 -- a write shows no rows

@@ -1,29 +1,17 @@
 -- The texts of a table as statements, and what they are resolved to, by the table's shape alone.
 use Rattle.std.proofs.Common.{ℕ, zero, suc, ◌-◌, Bool, if◌then◌else◌, List, [], ◌∷◌, codes, length, map, take, drop, Option, Some, None, false, true}
-use Rattle.sqlite.specs.declared.types.Value.TheVariants.{Null}
+use Rattle.tables.proofs.Common.{Null, Integer, Term, lit, col, op1, Parsed, TableBody, Statement, Rows, Expr, Core, roll-Core, Select, roll-Select, Output, TableShape, laid_out}
 use Rattle.sqlite.specs.Kind.{Kind}
-use Rattle.sqlite.specs.Kind.TheVariants.{Integer}
-use Rattle.sqlite.specs.Term.{Term, lit, col}
-use Rattle.sqlite_sql.specs.Term.{op1}
 use Rattle.sqlite_sql.specs.declared.ops.UnaryOp.TheVariants.{ToNumeric}
-use Rattle.sqlite_syntax.specs.declared.statement.Parsed.{Parsed}
 use Rattle.sqlite_ast.specs.declared.CreateTable.{CreateTable}
-use Rattle.sqlite_ast.specs.declared.TableBody.{TableBody}
-use Rattle.sqlite_ast.specs.declared.Statement.{Statement}
 use Rattle.sqlite_ast.specs.declared.Statement.TheVariants as written
 use Rattle.sqlite_ast.specs.declared.Conflict.TheVariants as conflict
-use Rattle.sqlite_ast.specs.declared.Rows.{Rows}
 use Rattle.sqlite_ast.specs.declared.Rows.TheVariants as rows
-use Rattle.sqlite_ast.specs.declared.Expr.{Expr}
 use Rattle.sqlite_ast.specs.declared.Expr.TheVariants as expr
 use Rattle.sqlite_ast.specs.declared.Binary.TheVariants as binary
 use Rattle.sqlite_ast.specs.declared.Shown.TheVariants as shown
 use Rattle.sqlite_ast.specs.declared.Origin.TheVariants as origin
 use Rattle.sqlite_ast.specs.declared.Source.{roll-Source}
-use Rattle.sqlite_ast.specs.declared.Core.{Core, roll-Core}
-use Rattle.sqlite_ast.specs.declared.Select.{Select, roll-Select}
-use Rattle.sqlite_resolve.specs.declared.scope.Output.{Output}
-use Rattle.tables.specs.Table.{TableShape, laid_out}
 use Rattle.tables.proofs.KeyTests.{equals, is_parameter}
 use Rattle.tables.proofs.SelectAll.{id_out, key_out, column_out}
 

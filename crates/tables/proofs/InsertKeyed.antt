@@ -1,24 +1,7 @@
 -- What an INSERT of one row does to a table with no rowid of its own.
 use Rattle.std.proofs.Common.{◌≡◌, ◌⊎◌, inl, inr, ℕ, ◌/◌, List, [], ◌∷◌, slice_get, Option, Some, None, Ok, Err, Result, refl, sym, ap, subst, append-nil, ◌∙◌, false, true, Bool, length, ◌&&◌, ◌==◌}
-use Rattle.std.specs.List.{flat_map, filter_map}
-use Rattle.sqlite.specs.Schema.{Schema}
-use Rattle.sqlite.specs.Table.{Table}
-use Rattle.sqlite.specs.Order.{Row}
-use Rattle.sqlite.specs.Term.{Term}
-use Rattle.sqlite.specs.Source.TheVariants.{Values}
-use Rattle.sqlite.specs.Command.TheVariants.{Insert}
-use Rattle.sqlite.specs.Edit.{Edit, edit_of, Applies}
-use Rattle.sqlite.specs.Rowids.TheVariants.{Chosen}
-use Rattle.sqlite.specs.Effect.{Database, value_rows}
-use Rattle.sqlite.specs.Rows.{Written}
-use Rattle.sqlite.specs.Does.{Tally, Does}
-use Rattle.sqlite.specs.declared.run.Mode.{Mode}
+use Rattle.tables.proofs.Common.{flat_map, filter_map, Schema, Table, Row, Term, Values, Insert, Edit, edit_of, Applies, Chosen, Database, value_rows, Written, Tally, Does, Mode, Reference, ParentKey, parent_key, Deed, works, work_by, deed_for, one_step}
 use Rattle.sqlite_schema.specs.declared.schema.Keys.{Keys}
-use Rattle.sqlite_schema.specs.declared.schema.Reference.{Reference}
-use Rattle.sqlite_schema.specs.Rules.{ParentKey, parent_key}
-use Rattle.sqlite_rules.specs.declared.action.Deed.{Deed}
-use Rattle.sqlite_rules.specs.Action.{works, work_by, deed_for}
-use Rattle.sqlite.proofs.Callers.{one_step}
 use Rattle.tables.proofs.Places.{untimed}
 
 -- a call that answered went on

@@ -1,48 +1,12 @@
 -- What an INSERT of one row does to the rows of a table, and what its text means under any schema.
 use Rattle.std.proofs.Common.{◌≡◌, ◌≤◌, ℕ, ℤ, ◌+◌, ◌/◌, length, List, [], ◌∷◌, map, slice_get, slice_range, Option, Some, None, Ok, refl, sym, ap, subst, ◌∙◌, false, true, Bool, cond, not, ◌&&◌}
-use Rattle.std.specs.List.Sorted.{IsPermutation}
-use Rattle.std.proofs.lemmas.Bool.{and_parts}
-use Rattle.std.proofs.lemmas.List.Sorted.{IsPermutation-trans, IsPermutation-cons, IsPermutation-map}
-use Rattle.sqlite.specs.declared.types.Value.{Value}
-use Rattle.sqlite.specs.declared.types.Value.TheVariants.{Null, Int, Blob as Bytes}
-use Rattle.sqlite.specs.Order.{Row}
-use Rattle.sqlite.specs.Schema.{Schema}
-use Rattle.sqlite.specs.Table.{Table}
-use Rattle.sqlite.specs.Term.{Term}
-use Rattle.sqlite.specs.Kind.TheVariants.{Integer, Blob}
-use Rattle.sqlite.specs.Cast.{cast, cast_row}
+use Rattle.tables.proofs.Common.{IsPermutation, and_parts, IsPermutation-trans, IsPermutation-cons, IsPermutation-map, Value, Null, Int, Bytes, Row, Schema, Table, Term, Integer, Blob, cast, cast_row, put_row, id_in, is_taken, Applies, with_rowid, is_int, int_is, value_rows, Insert, Values, State, mode_of, Executes, text_of, Chosen, first, small, with_command, on_table, new_rows, table_named, Returning, Enforced, Parsed, Statement, Rows, Checked, Compiled, IsWrite, accepts_terms, Command, Kind, Cells, are_of, Place, TableShape, Lists, cells, kind_in, laid_out, made_at, sql_values, IsKeyed, Adds, IsWriteOf}
 use Rattle.sqlite.specs.Ops.{unary}
-use Rattle.sqlite.specs.Tree.{put_row}
-use Rattle.sqlite.specs.Edit.{id_in, is_taken, Applies, with_rowid}
-use Rattle.sqlite_trees.specs.View.{is_int}
-use Rattle.sqlite_rules.proofs.TableLemmas.{int_is}
-use Rattle.sqlite.specs.Effect.{value_rows}
-use Rattle.sqlite.specs.Command.TheVariants.{Insert}
-use Rattle.sqlite.specs.Source.TheVariants.{Values}
-use Rattle.sqlite.specs.State.{State, mode_of, Executes, text_of}
-use Rattle.sqlite.specs.Rowids.TheVariants.{Chosen}
-use Rattle.sqlite.specs.Compile.{compiled, first, timed, returning, command, small, with_command, on_table, planned, meaning, insert, insert_or_abort, new_rows, shows}
+use Rattle.sqlite.specs.Compile.{compiled, timed, returning, command, planned, meaning, insert, insert_or_abort, shows}
 use Rattle.sqlite.specs.Listing.{understood}
-use Rattle.sqlite_schema.specs.Names.{table_named}
-use Rattle.sqlite_schema.specs.declared.command.Returning.{Returning}
-use Rattle.sqlite_schema.specs.declared.schema.Keys.TheVariants.{Enforced}
-use Rattle.sqlite_syntax.specs.declared.statement.Parsed.{Parsed}
-use Rattle.sqlite_ast.specs.declared.Statement.{Statement}
 use Rattle.sqlite_ast.specs.declared.Statement.TheVariants as written
 use Rattle.sqlite_ast.specs.declared.Conflict.TheVariants as conflict
-use Rattle.sqlite_ast.specs.declared.Rows.{Rows}
-use Rattle.sqlite_resolve.specs.Lowering.{Checked}
-use Rattle.sqlite_resolve.specs.declared.compiled.Compiled.{Compiled}
-use Rattle.sqlite.specs.Calls.{IsWrite}
-use Rattle.sqlite_typing.specs.Types.{accepts_terms}
-use Rattle.sqlite.specs.Command.{Command}
-use Rattle.row_model.specs.declared.cell.Kind.{Kind}
-use Rattle.row_model.specs.Rows.{Cells, are_of}
-use Rattle.tables.specs.Table.{Place, TableShape, Lists, cells, kind_in, laid_out, made_at, values as sql_values}
-use Rattle.tables.specs.Keyed.{IsKeyed}
-use Rattle.tables.specs.Writes.{Adds}
 use Rattle.tables.proofs.Places.{listed_along}
-use Rattle.tables.specs.Inside.Causes.{IsWriteOf}
 use Rattle.tables.proofs.Understood.{Means, IsWriteText, runs_by, ends_in_write, on_table_writes, compiles_to_write}
 use Rattle.tables.proofs.InsertKeyed.{insert_does, insert_edit}
 use Rattle.tables.proofs.Puts.{put_row_permutes}

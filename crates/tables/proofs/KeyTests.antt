@@ -1,21 +1,11 @@
 -- The tests of keys.
 use Rattle.std.proofs.Common.{◌≡◌, ℕ, ℤ, List, None, true, false, Bool, Some, Ordering, Less, Equal, Greater, refl, ap, sym, subst, ◌∙◌}
-use Rattle.sqlite.specs.declared.types.Value.TheVariants.{Int}
-use Rattle.sqlite.specs.Order.{Row}
-use Rattle.sqlite.specs.Tree.{rowid}
-use Rattle.sqlite_trees.specs.View.{is_int}
-use Rattle.sqlite_schema.specs.Rules.{equal}
+use Rattle.tables.proofs.Common.{Int, Row, rowid, is_int, equal, is_eq, value_cmp-Int, int_is, id_of, Binary, Expr, op2}
 use Rattle.sqlite_sql.specs.Ops.{binary, is_true, from_truth}
-use Rattle.std.specs.Ordering.{is_eq}
 use Rattle.std.proofs.lemmas.Map.Lookups.{exact_signed}
-use Rattle.sqlite_value.proofs.OrderLemmas.{value_cmp-Int}
-use Rattle.sqlite_rules.proofs.TableLemmas.{int_is}
-use Rattle.tables.specs.Inside.Keyed.{id_of}
-use Rattle.sqlite.specs.Collation.TheVariants.{Binary}
-use Rattle.sqlite_ast.specs.declared.Expr.{Expr}
 use Rattle.sqlite_ast.specs.declared.Expr.TheVariants as expr
 use Rattle.sqlite_ast.specs.declared.Binary.TheVariants as binary
-use Rattle.sqlite_sql.specs.Term.{Term, col, op2}
+use Rattle.sqlite_sql.specs.Term.{Term, col}
 use Rattle.sqlite_sql.specs.declared.ops.BinaryOp.TheVariants.{Compare}
 use Rattle.sqlite_sql.specs.declared.ops.CompareOp.TheVariants.{Eq}
 

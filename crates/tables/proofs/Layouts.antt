@@ -1,29 +1,13 @@
 -- A table that passes the tests is one of its shape, at its place.
 use Rattle.std.proofs.Common.{◌≡◌, inl, inr, ℕ, Bool, true, false, not, ◌==◌, ◌&&◌, ◌||◌, if◌then◌else◌, List, [], ◌∷◌, length, slice_get, Option, Some, None, map, refl, sym, ap, subst, ◌∙◌, arith}
-use Rattle.std.specs.Option.{option_map_or}
-use Rattle.std.specs.List.{list_all}
-use Rattle.std.specs.Str.{bytes_eq}
-use Rattle.std.proofs.lemmas.Bool.{and_parts, cases_Bool}
+use Rattle.tables.proofs.Common.{option_map_or, list_all, bytes_eq, and_parts, cases_Bool, Decides-eqb, map-id, Integer, Real, Text, Blob, Any, Table, Schema, plain, Order, Reference, kind_code, Ours, TableShape, shape_of, table_at, Place, all_referring, kind_in, required, referring, ascending, made_at, is_nothing, is_binary, same_key, are_of_one, are_strict, is_alone, is_bare, is_required, is_referring, are_told, are_plain, is_untimed, has_shape, IsTableNamed, place_of, IsListed}
 use Rattle.std.proofs.lemmas.Slice.Eq.{bytes_eq-Decides}
-use Rattle.std.proofs.lemmas.Bool.Decides.{Decides-eqb}
-use Rattle.std.proofs.lemmas.List.{map-id}
 use Rattle.sqlite.specs.Kind.{Kind}
-use Rattle.sqlite.specs.Kind.TheVariants.{Integer, Real, Text, Blob, Any}
-use Rattle.sqlite.specs.Table.{Table}
-use Rattle.sqlite.specs.Schema.{Schema}
-use Rattle.sqlite_value.specs.Keys.{plain}
 use Rattle.sqlite_value.specs.declared.value.Value.{Value}
 use Rattle.sqlite_value.specs.declared.value.Value.TheVariants as value
 use Rattle.sqlite_value.specs.declared.keys.Collation.{Collation}
 use Rattle.sqlite_value.specs.declared.keys.Collation.TheVariants as collation
-use Rattle.sqlite_value.specs.declared.keys.Order.{Order}
 use Rattle.sqlite_schema.specs.declared.schema.Column.{Column}
-use Rattle.sqlite_schema.specs.declared.schema.Reference.{Reference}
-use Rattle.sqlite_schema.specs.Rules.{kind_code}
-use Rattle.row_model.specs.declared.table.Table.{Table as Ours}
-use Rattle.tables.specs.Table.{TableShape, shape_of, table_at, Place, all_referring, kind_in, required, referring, ascending, made_at}
-use Rattle.tables.specs.Inside.Layout.{is_nothing, is_binary, same_key, are_of_one, are_strict, is_alone, is_bare, is_required, is_referring, are_told, are_plain, is_untimed, has_shape, IsTableNamed, place_of}
-use Rattle.tables.specs.Layout.{IsListed}
 use Rattle.tables.proofs.Quiet.{passive_is}
 
 same_bytes : (a b : List ℕ) → bytes_eq a b ≡ true → a ≡ b

@@ -1,6 +1,6 @@
 -- A schema with more tables at its end.
 use Rattle.std.proofs.Common.{◌≡◌, ℕ, zero, suc, ◌+◌, List, [], ◌∷◌, ◌++◌, length, slice_get, Some, is_some, Bool, true, false, refl, ap, ◌∙◌, arith}
-use Rattle.std.specs.List.{position_from}
+use Rattle.tables.proofs.Common.{position_from}
 
 module _ {X : Type 0} (p : X → Bool) where
   found_go : (from : ℕ) (x : X) (xs ys : List X) (at : ℕ) (b : Bool) → p x ≡ b → ((n : ℕ) → position_from p n xs ≡ Some at → position_from p n (xs ++ ys) ≡ Some at)

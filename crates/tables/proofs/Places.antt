@@ -1,8 +1,6 @@
 -- A table that is listed.
 use Rattle.std.proofs.Common.{◌≡◌, [], false, sym, subst}
-use Rattle.sqlite.specs.Table.{Table}
-use Rattle.sqlite.specs.Schema.{Schema}
-use Rattle.tables.specs.Table.{Lists}
+use Rattle.tables.proofs.Common.{Table, Schema, Lists}
 
 -- a table with no AUTOINCREMENT and no default that reads the time
 abbrev pub untimed : Table → Table

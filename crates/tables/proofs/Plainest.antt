@@ -1,15 +1,8 @@
 -- The plainest query is a statement under any schema.
 use Rattle.std.proofs.Common.{◌≡◌, ℕ, List, [], length, codes, Ok, refl, sym, ap, arith}
-use Rattle.sqlite.specs.Schema.{Schema}
+use Rattle.tables.proofs.Common.{Schema, State, IsNotRun, Compiled, Error, Storage, fault_of, IsStopped, IsText}
 use Rattle.sqlite.specs.Listing.{understood, listing_schema}
-use Rattle.sqlite.specs.State.{State, IsNotRun}
-use Rattle.sqlite_resolve.specs.declared.compiled.Compiled.{Compiled}
 use Rattle.sqlite_tied.specs.Compute.{everything}
-use Rattle.sqlite.specs.declared.error.Error.{Error}
-use Rattle.tables.specs.declared.fault.TableFault.TheVariants.{Storage}
-use Rattle.tables.specs.Faults.{fault_of}
-use Rattle.tables.specs.Causes.{IsStopped}
-use Rattle.tables.specs.Inside.Causes.{IsText}
 use Rattle.tables.proofs.Ends.{not_run}
 
 plainest : (schema : Schema) → (c : Compiled) × (understood schema (codes "SELECT 1") ≡ Ok c) × (c.tail ≡ 8) × (c.names ≡ []) × (c.formats ≡ [])

@@ -1,33 +1,10 @@
 -- The rows that a statement over one table finds.
 use Rattle.std.proofs.Common.{◌≡◌, ◌≤◌, length, ℕ, List, [], ◌∷◌, ◌++◌, slice_range, None, Ok, Err, ap, refl, sym, subst₂, ◌∙◌, false, Bool, true, if◌then◌else◌, cond, map, filter}
-use Rattle.std.specs.List.{flat_map, list_all}
-use Rattle.std.specs.List.Sorted.{IsPermutation}
-use Rattle.std.proofs.lemmas.List.Sorted.{IsPermutation-map}
-use Rattle.sqlite_sql.specs.Term.{Term, Env, eval_all, holds}
+use Rattle.tables.proofs.Common.{flat_map, list_all, IsPermutation, IsPermutation-map, Env, eval_all, holds, Null, Program, Checked, and_then, Mismatch, Command, overlay, Row, Database, Answers, Schema, Table, IsWrite, compiled, first, timed, returning, command, on_table, with_command, listing_schema, if_select, understood, text_of, Parsed, Statement, Draft, Compiled, NoSuchTable, Place, TableShape, Lists, made_at, IsWriteOf}
+use Rattle.sqlite_sql.specs.Term.{Term}
 use Rattle.sqlite_sql.specs.Query.{IsAnswer, output, Output}
-use Rattle.sqlite.specs.declared.types.Value.TheVariants.{Null}
-use Rattle.sqlite_schema.specs.declared.program.Program.{Program}
-use Rattle.sqlite_resolve.specs.Lowering.{Checked, and_then}
-use Rattle.sqlite_resolve.specs.declared.error.CompileError.TheVariants.{Mismatch}
-use Rattle.sqlite.specs.Command.{Command}
-use Rattle.sqlite.specs.Program.{overlay}
-use Rattle.sqlite.specs.Order.{Row}
-use Rattle.sqlite.specs.Effect.{Database, Answers}
-use Rattle.sqlite.specs.Schema.{Schema}
-use Rattle.sqlite.specs.Table.{Table}
-use Rattle.sqlite.specs.Calls.{IsWrite}
-use Rattle.sqlite.specs.Compile.{compiled, first, timed, returning, command, on_table, with_command}
-use Rattle.sqlite.specs.Listing.{listing_schema, if_select, understood}
-use Rattle.sqlite.specs.State.{text_of}
-use Rattle.sqlite_syntax.specs.declared.statement.Parsed.{Parsed}
-use Rattle.sqlite_ast.specs.declared.Statement.{Statement}
-use Rattle.sqlite_draft.specs.declared.query.Draft.{Draft}
 use Rattle.sqlite_resolve.specs.Program.{program}
-use Rattle.sqlite_resolve.specs.declared.compiled.Compiled.{Compiled}
-use Rattle.sqlite_resolve.specs.declared.error.CompileError.TheVariants.{NoSuchTable}
-use Rattle.tables.specs.Table.{Place, TableShape, Lists, made_at}
 use Rattle.tables.proofs.Understood.{planned_of, Means, IsWriteText, and_then_ok, ends_in_write, on_table_writes, compiles_to_write}
-use Rattle.tables.specs.Inside.Causes.{IsWriteOf}
 use Rattle.tables.proofs.InsertRow.{compiled_is, has_listed, on_table_is, understood_is}
 use Rattle.tables.proofs.SelectAll.{IsAccepted, found_program, finding, no_overlay, found_query}
 

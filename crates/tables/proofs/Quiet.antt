@@ -1,25 +1,8 @@
 -- Where no reference to a table has an action, none acts.
 use Rattle.std.proofs.Common.{◌≡◌, ◌≢◌, ◌⊎◌, ◌↔◌, inl, inr, ℕ, List, [], ◌∷◌, ◌++◌, Bool, true, false, not, ◌&&◌, ◌||◌, ◌==◌, Option, Some, None, option_map, option_and_then, find, length, refl, sym, ap, subst, ◌∙◌, true≢false}
-use Rattle.std.specs.List.{list_all, flat_map, filter_map}
-use Rattle.std.proofs.lemmas.Bool.{cases_Bool, and_parts, and_from, and_cases, and_left, and_right, or_parts, or_from, not-false, false_from_ne_true}
-use Rattle.std.proofs.lemmas.Bool.Decides.{Decides-eqb}
-use Rattle.sqlite_rules.proofs.ListLemmas.{has_either, has_found, some_has, some_from, fails_has, fails_from}
-use Rattle.sqlite_rules.specs.Lists.{Has}
-use Rattle.sqlite.specs.Order.{Row}
-use Rattle.sqlite.specs.Schema.{Schema}
-use Rattle.sqlite.specs.Table.{Table}
+use Rattle.tables.proofs.Common.{list_all, flat_map, filter_map, cases_Bool, and_parts, and_from, and_cases, and_left, and_right, or_parts, or_from, not-false, false_from_ne_true, Decides-eqb, has_either, has_found, some_has, some_from, fails_has, fails_from, Has, Row, Schema, Table, NoAction, Enforced, Reference, same_name, ParentKey, key_in, key_places, declared_order, Order, Deed, work_by, work_for, deed_for, pairs, IsInert, IsActedOn}
 use Rattle.sqlite_schema.specs.declared.schema.Action.{Action}
-use Rattle.sqlite_schema.specs.declared.schema.Action.TheVariants.{NoAction}
-use Rattle.sqlite_schema.specs.declared.schema.Keys.TheVariants.{Enforced}
-use Rattle.sqlite_schema.specs.declared.schema.Reference.{Reference}
-use Rattle.sqlite_schema.specs.Names.{same_name}
-use Rattle.sqlite_schema.specs.Rules.{ParentKey, key_in, key_places, declared_order}
-use Rattle.sqlite_value.specs.declared.keys.Order.{Order}
-use Rattle.sqlite_rules.specs.declared.action.Deed.{Deed}
-use Rattle.sqlite_rules.specs.Action.{work_by, work_for, deed_for, pairs}
-use Rattle.tables.specs.Writes.{IsInert}
 use Rattle.tables.specs.Inside.Inert.{is_passive, refers_to, is_quiet, is_inert}
-use Rattle.tables.specs.Inert.{IsActedOn}
 
 -- an action that is passive is NO ACTION
 pub passive_is : (a : Action) → is_passive a ≡ true → a ≡ NoAction

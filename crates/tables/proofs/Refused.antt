@@ -1,29 +1,7 @@
 -- The one edit of a statement of a table: the one that it makes, and the one for which it is refused.
 use Rattle.std.proofs.Common.{◌≡◌, ℕ, List, [], ◌∷◌, filter, map, take, find, ◌==◌, ◌^◌, nat_le, nat_lt, Option, Some, Ok, Bool, true, false, refl, ap, subst, ◌∙◌, arith}
-use Rattle.std.proofs.lemmas.Bool.Decides.{nat_tests}
-use Rattle.std.specs.List.Sorted.{IsPermutation}
-use Rattle.std.proofs.lemmas.List.Sorted.{IsPermutation-cons, IsPermutation-middle, IsPermutation-refl, IsPermutation-trans}
-use Rattle.sqlite_keyed.proofs.ListLemmas.{along_permutation, filter_same, map-map}
-use Rattle.sqlite.specs.Table.{Table as AnyTable}
-use Rattle.sqlite.specs.Order.{Row}
-use Rattle.sqlite.specs.Term.{Term, col, eval_all}
-use Rattle.sqlite.specs.Tree.{rowid}
-use Rattle.sqlite.specs.Edit.{Edit, edit_of, id_in, with_rowid}
-use Rattle.sqlite.specs.Rowids.TheVariants.{Chosen, Given}
-use Rattle.sqlite.specs.Effect.{Answers, Database, IsDatabase}
-use Rattle.sqlite.specs.Command.TheVariants.{Insert, Update, Delete}
-use Rattle.sqlite.specs.Source.TheVariants.{Values}
-use Rattle.sqlite.specs.State.{State, Executes, mode_of}
-use Rattle.sqlite_rules.specs.Calls.{ids_of}
-use Rattle.sqlite_rules.specs.Lists.{Has}
-use Rattle.sqlite_rules.proofs.ListLemmas.{all_has}
-use Rattle.row_model.specs.declared.cell.Kind.{Kind}
-use Rattle.row_model.specs.Rows.{Cells, are_of}
-use Rattle.tables.specs.Table.{Lists, Place, TableShape, cells, made_at, values as sql_values}
-use Rattle.tables.specs.Keyed.{Stands}
-use Rattle.tables.specs.Writes.{begins_with}
-use Rattle.tables.specs.Causes.{IsMade, IsRefusedIn, OfChange, OfRow, adding, changing, replacing}
-use Rattle.tables.specs.Inside.Causes.{IsHindered}
+use Rattle.tables.proofs.Common.{nat_tests, IsPermutation, IsPermutation-cons, IsPermutation-middle, IsPermutation-refl, IsPermutation-trans, along_permutation, filter_same, map-map, AnyTable, Row, Term, col, rowid, Edit, edit_of, id_in, with_rowid, Chosen, Given, Answers, Database, IsDatabase, Insert, Update, Delete, Values, State, Executes, mode_of, ids_of, Has, all_has, Kind, Cells, are_of, Lists, Place, TableShape, cells, made_at, sql_values, Stands, begins_with, IsMade, IsRefusedIn, OfChange, OfRow, adding, changing, replacing, IsHindered}
+use Rattle.sqlite.specs.Term.{eval_all}
 use Rattle.tables.proofs.InsertRow.{IsInsert, has_listed, insert_means, insert_text}
 use Rattle.tables.proofs.InsertKeyed.{insert_does, insert_edit}
 use Rattle.tables.proofs.UpdateRow.{IsUpdate, map_same, numbered_given, remade, showing, update_does}

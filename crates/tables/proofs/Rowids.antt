@@ -1,23 +1,7 @@
 -- Rows that are distinguished by their rowids, and what puts keep of it.
 use Rattle.std.proofs.Common.{◌≡◌, inl, inr, List, [], ◌∷◌, ◌++◌, map, Bool, true, false, sym, ap, subst, subst₂, ◌∙◌}
-use Rattle.std.specs.List.{list_any, AllByRecursion}
-use Rattle.std.specs.List.Sorted.{IsPermutation}
-use Rattle.std.specs.Ordering.{is_eq}
-use Rattle.std.proofs.lemmas.Bool.{and_parts, or_parts, not-true}
+use Rattle.tables.proofs.Common.{list_any, AllByRecursion, IsPermutation, is_eq, and_parts, or_parts, not-true, IsPermutation-refl, IsPermutation-trans, IsPermutation-middle, IsPermutation-sym, IsPermutation-append_right, Value, Row, value_cmp, rowid, has_rowid, put_row, IsAscending, is_int, is_taken, are_fresh, put_all, have_rowids, value_cmp_total, Has, all_has, all_from, int_is, along_permutation, id_of, IsKeyed}
 use Rattle.std.proofs.lemmas.Cmp.{tied_itself, eq_by_cmp_equiv}
-use Rattle.std.proofs.lemmas.List.Sorted.{IsPermutation-refl, IsPermutation-trans, IsPermutation-middle, IsPermutation-sym, IsPermutation-append_right}
-use Rattle.sqlite.specs.declared.types.Value.{Value}
-use Rattle.sqlite.specs.Order.{Row, value_cmp}
-use Rattle.sqlite.specs.Tree.{rowid, has_rowid, put_row, IsAscending}
-use Rattle.sqlite_trees.specs.View.{is_int}
-use Rattle.sqlite.specs.Edit.{is_taken, are_fresh, put_all, have_rowids}
-use Rattle.sqlite_value.proofs.OrderLemmas.{value_cmp_total}
-use Rattle.sqlite_rules.specs.Lists.{Has}
-use Rattle.sqlite_rules.proofs.ListLemmas.{all_has, all_from}
-use Rattle.sqlite_rules.proofs.TableLemmas.{int_is}
-use Rattle.sqlite_keyed.proofs.ListLemmas.{along_permutation}
-use Rattle.tables.specs.Inside.Keyed.{id_of}
-use Rattle.tables.specs.Keyed.{IsKeyed}
 use Rattle.tables.proofs.Puts.{put_row_permutes}
 
 -- values that differ differ the other way round

@@ -1,17 +1,7 @@
 -- Rows that are taken out by their rowids.
 use Rattle.std.proofs.Common.{◌≡◌, inl, inr, ℤ, List, [], ◌∷◌, map, filter, Bool, true, false, not, ◌||◌, ◌&&◌, cond, refl, sym, ap, subst, ◌∙◌}
-use Rattle.std.specs.List.{list_any, AllByRecursion}
-use Rattle.std.specs.List.Sorted.{IsPermutation}
-use Rattle.std.proofs.lemmas.List.Sorted.{list_any-IsPermutation}
-use Rattle.sqlite.specs.Order.{Row}
-use Rattle.sqlite.specs.Tree.{has_rowid, without_rowid, IsAscending}
-use Rattle.sqlite.specs.Edit.{without_all}
-use Rattle.sqlite_rules.specs.Lists.{Has}
+use Rattle.tables.proofs.Common.{list_any, AllByRecursion, IsPermutation, list_any-IsPermutation, Row, has_rowid, without_rowid, IsAscending, without_all, Has, id_of, IsKeyed, all_has, all-filter, ascending-filter}
 use Rattle.tables.proofs.Rowids.{found_of, both_of}
-use Rattle.tables.specs.Inside.Keyed.{id_of}
-use Rattle.tables.specs.Keyed.{IsKeyed}
-use Rattle.sqlite_rules.proofs.ListLemmas.{all_has}
-use Rattle.sqlite_keyed.proofs.ListLemmas.{all-filter, ascending-filter}
 
 any_none : {X : Type 0} (q : X → Bool) (ys : List X) → ((y : X) → Has ys y → q y ≡ false) → list_any q ys ≡ false
 any_none q [] none = refl

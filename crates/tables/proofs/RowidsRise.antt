@@ -1,14 +1,6 @@
 -- Rows whose rowids rise are distinguished by them.
 use Rattle.std.proofs.Common.{◌≡◌, List, [], ◌∷◌, true, false, refl, ap, Ordering, Less, Equal, Greater, is_eq}
-use Rattle.std.specs.List.{AllByRecursion}
-use Rattle.std.specs.Ordering.{is_lt}
-use Rattle.std.proofs.lemmas.Bool.{and_parts}
-use Rattle.sqlite.specs.Order.{Row, value_cmp}
-use Rattle.sqlite.specs.Tree.{rowid, IsAscending}
-use Rattle.sqlite_trees.specs.View.{is_int}
-use Rattle.sqlite_value.proofs.OrderLemmas.{value_cmp_total}
-use Rattle.sqlite_rules.proofs.ListLemmas.{all_has, all_from}
-use Rattle.tables.specs.Keyed.{IsKeyed, rises, have_ids}
+use Rattle.tables.proofs.Common.{AllByRecursion, is_lt, and_parts, Row, value_cmp, rowid, IsAscending, is_int, value_cmp_total, all_has, all_from, IsKeyed, rises, have_ids}
 
 below : (o : Ordering) → is_lt o ≡ true → o ≡ Less
 below Less h = refl

@@ -1,27 +1,8 @@
 -- Statements one after the other, and what they leave alone.
 use Rattle.std.proofs.Common.{◌≡◌, ◌≢◌, ◌⊎◌, inl, inr, arith, ℕ, List, [], ◌∷◌, refl, sym, subst, ◌∙◌, IsTrue, true, false, Bool, map, ap, ◌<◌, ◌^◌, nat_lt, Option, Some, slice_get, Result, Ok, Err}
-use Rattle.std.specs.List.{AllZip}
-use Rattle.std.proofs.lemmas.Bool.Decides.{Decides-ltb}
-use Rattle.sqlite_schema.specs.Names.{table_named}
-use Rattle.sqlite_catalog.specs.Listing.{IsSound, IsTableRow}
-use Rattle.sqlite_rules.specs.Lists.{Has}
-use Rattle.std.specs.List.Sorted.{IsPermutation}
-use Rattle.sqlite.specs.Order.{Row}
-use Rattle.sqlite.specs.Schema.{Schema}
-use Rattle.sqlite.specs.Table.{Table}
-use Rattle.sqlite.specs.Effect.{Database}
-use Rattle.sqlite.specs.State.{State, HasCleanDisk, KeepsCommit, Executes, Survives}
-use Rattle.sqlite.proofs.StateLemmas.{survives_then}
-use Rattle.sqlite.specs.Tree.{Trees}
-use Rattle.sqlite_rules.proofs.ListLemmas.{all_has, has_got}
-use Rattle.row_model.specs.declared.table.Table.{Table as Ours}
+use Rattle.tables.proofs.Common.{AllZip, Decides-ltb, table_named, IsSound, IsTableRow, Has, IsPermutation, Row, Schema, Table, Database, State, HasCleanDisk, KeepsCommit, Executes, Survives, survives_then, Trees, all_has, has_got, Ours, Place, Rules, Lists, cells, table_at, same_table, cases_Bool, IsKeyed, Stands, WritesOnly, Creates, HasStepped, IsPart, Rests, HasRun, Stays}
 pub use Rattle.row_model.proofs.Tables.{same_table_is, same_table_self}
-use Rattle.tables.specs.Table.{Place, Rules, Lists, cells, table_at, same_table}
-use Rattle.std.proofs.lemmas.Bool.{cases_Bool}
-use Rattle.tables.specs.Keyed.{IsKeyed, Stands}
-use Rattle.tables.specs.Writes.{WritesOnly, Creates}
-use Rattle.tables.specs.Steps.{Does, HasStepped, IsPart, Rests}
-use Rattle.tables.specs.Inside.Steps.{HasRun, Stays}
+use Rattle.tables.specs.Steps.{Does}
 use Rattle.tables.proofs.Places.{listed_along}
 use Rattle.tables.proofs.Understood.{IsWriteText, written_sound}
 

@@ -1,21 +1,11 @@
 -- Two databases with the same trees list the same tables, since a table is what its text in the list of objects defines, at the tree that
 -- its rowid gives.
 use Rattle.std.proofs.Common.{◌≡◌, ℕ, ◌+◌, List, [], ◌∷◌, Some, arith, refl, sym, ap, subst, ◌∙◌, map, filter, slice_get, pos}
-use Rattle.std.specs.List.{AllZip}
-use Rattle.std.specs.List.Sorted.{IsPermutation}
-use Rattle.sqlite_schema.specs.Names.{table_named}
-use Rattle.sqlite_catalog.specs.Listing.{IsTableRow, is_table_row}
+use Rattle.tables.proofs.Common.{AllZip, IsPermutation, table_named, IsTableRow, is_table_row, Database, IsDatabase, Schema, AnyTable, Trees, Value, Int, Place, Lists, cells, IsKeyed, Stands}
 use Rattle.sqlite_trees.specs.Objects.{catalog_tree}
 use Rattle.sqlite_resolve.specs.Compile.{table_defined_by}
-use Rattle.sqlite.specs.Effect.{Database, IsDatabase}
 use Rattle.sqlite.specs.Order.{Row as Cells}
-use Rattle.sqlite.specs.Schema.{Schema}
-use Rattle.sqlite.specs.Table.{Table as AnyTable}
-use Rattle.sqlite.specs.Tree.{Trees}
-use Rattle.sqlite.specs.declared.types.Value.{Value}
-use Rattle.sqlite.specs.declared.types.Value.TheVariants.{Int, Text}
-use Rattle.tables.specs.Table.{Place, Lists, cells}
-use Rattle.tables.specs.Keyed.{IsKeyed, Stands}
+use Rattle.sqlite.specs.declared.types.Value.TheVariants.{Text}
 
 -- the number before one more
 one_less : (m n : ℕ) → ◌≡◌ {A = Value} (Int (pos (m + 1))) (Int (pos (n + 1))) → m ≡ n

@@ -1,61 +1,29 @@
 -- SELECT of the columns of a whole table, under any schema that lists it.
 use Rattle.std.proofs.Common.{◌≡◌, ◌≤◌, ◌==◌, find, length, ℕ, List, [], ◌∷◌, codes, slice_get, slice_range, Some, None, Ok, Err, refl, sym, ap, subst, ◌∙◌, false, true, drop, pos, negsuc, Bool, if◌then◌else◌, map, unwrap_or, nat_le, nat_lt, ◌-◌, ◌^◌, subst₂, append-nil}
-use Rattle.sqlite.specs.Schema.{Schema}
-use Rattle.sqlite.specs.Compile.{compiled, first, timed, returning, command, read}
-use Rattle.sqlite_syntax.specs.declared.statement.Parsed.{Parsed}
+use Rattle.tables.proofs.Common.{Schema, compiled, first, Parsed, Select, out-Select, Core, out-Core, Null, Int, Term, lit, col, Building, Shown, lift, or_view, sources, Checked, and_then, fresh, max_budget, Output, bounds, result, matching, lower, Binary, outermost, Command, Draft, Program, NoSuchTable, Mismatch, understood, reads_listing, IsSourceOf, listing_schema, if_select, State, IsUnchanged, text_of, Compiled, IsPermutation, IsPermutation-map, IsPermutation-sym, IsPermutation-trans, Table, lets_of, accepts_program, Trees, Row, Database, Reads, overlay, shown, eval_all, Place, TableShape, Lists, made_at, IsKeyed, Stands, Shows, Rests, RanQuery, map-map, IsRolledBack, Error}
+use Rattle.sqlite.specs.Compile.{timed, returning, command, read}
 use Rattle.sqlite_ast.specs.declared.Statement.TheVariants as written
-use Rattle.sqlite_ast.specs.declared.Select.{Select, out-Select}
-use Rattle.sqlite_ast.specs.declared.Core.{Core, out-Core}
-use Rattle.sqlite.specs.declared.types.Value.TheVariants.{Null, Int}
-use Rattle.sqlite.specs.Term.{Term, lit, col}
 use Rattle.sqlite.specs.Query.{Query, inner, end, IsAnswer, output, Output as Output'}
 use Rattle.sqlite_resolve.specs.Terms.{number}
 use Rattle.sqlite_resolve.specs.Select.{named, paging, constant_or}
-use Rattle.sqlite_resolve.specs.Program.{query, query_to, program, Building, Shown, lift, or_view, viewing, sources, single, alone, whole, level, with}
-use Rattle.sqlite_resolve.specs.Lowering.{Checked, and_then, fresh, max_budget}
+use Rattle.sqlite_resolve.specs.Program.{query, query_to, program, viewing, single, alone, whole, level, with}
 use Rattle.sqlite_resolve.specs.declared.state.State.{State as LState}
 use Rattle.sqlite_resolve.specs.declared.scope.Bound.{Bound}
-use Rattle.sqlite_resolve.specs.declared.scope.Output.{Output}
-use Rattle.sqlite_resolve.specs.Body.{bounds, result, matching, body, tests}
-use Rattle.sqlite_resolve.specs.Expr.{lower}
-use Rattle.sqlite.specs.Collation.TheVariants.{Binary}
-use Rattle.sqlite_resolve.specs.Select.{outermost, parts, assembled, having, ungrouped}
+use Rattle.sqlite_resolve.specs.Body.{body, tests}
+use Rattle.sqlite_resolve.specs.Select.{parts, assembled, having, ungrouped}
 use Rattle.sqlite_resolve.specs.Order.{keys, sorts}
 use Rattle.sqlite_resolve.specs.declared.body.Body.{Body}
 use Rattle.sqlite_resolve.specs.declared.select.Clauses.{Clauses}
-use Rattle.sqlite.specs.Command.{Command}
 use Rattle.sqlite.specs.Command.TheVariants as command
 use Rattle.sqlite_schema.specs.declared.program.Table.{Table as Let}
-use Rattle.sqlite_draft.specs.declared.query.Draft.{Draft}
 use Rattle.sqlite_draft.specs.Query.{query_of}
 use Rattle.sqlite_draft.specs.declared.join.Step.TheVariants.{Inner}
-use Rattle.sqlite_schema.specs.declared.program.Program.{Program}
-use Rattle.sqlite_resolve.specs.declared.error.CompileError.TheVariants.{NoSuchTable, Mismatch}
-use Rattle.sqlite.specs.Listing.{understood, reads_listing, IsSourceOf, listing_schema, if_select}
-use Rattle.sqlite.specs.State.{State, Shown as HasShown, IsUnchanged, text_of}
-use Rattle.sqlite_resolve.specs.declared.compiled.Compiled.{Compiled}
+use Rattle.sqlite.specs.State.{Shown as HasShown}
 use Rattle.tables.proofs.Understood.{planned_of, compiled_of, Means}
-use Rattle.std.specs.List.Sorted.{IsPermutation}
-use Rattle.std.proofs.lemmas.List.Sorted.{IsPermutation-map, IsPermutation-sym, IsPermutation-trans}
 use Rattle.std.proofs.lemmas.List.Concat.{flat_map_single}
-use Rattle.sqlite.specs.Table.{Table}
-use Rattle.sqlite_schema.specs.Program.{lets_of}
-use Rattle.sqlite_typing.specs.Types.{accepts_program}
-use Rattle.sqlite.specs.Tree.{Trees}
-use Rattle.sqlite.specs.Order.{Row}
-use Rattle.sqlite.specs.Effect.{Database, Reads}
-use Rattle.sqlite.specs.Program.{overlay}
-use Rattle.sqlite.specs.Rows.{shown}
-use Rattle.sqlite_sql.specs.Term.{eval_all}
-use Rattle.tables.specs.Table.{Place, TableShape, Lists, made_at}
-use Rattle.tables.specs.Keyed.{IsKeyed, Stands}
-use Rattle.tables.specs.Steps.{Shows, Rests}
-use Rattle.tables.specs.Inside.Steps.{RanQuery}
 use Rattle.std.proofs.Common.{inl, inr}
 use Rattle.tables.proofs.Rowids.{keyed_by_ids, keyed_permuted}
-use Rattle.sqlite_keyed.proofs.ListLemmas.{map-map}
-use Rattle.sqlite.specs.State.{CommitsShowing, IsRolledBack, FailsToQuery, IsNotRun}
-use Rattle.sqlite.specs.declared.error.Error.{Error}
+use Rattle.sqlite.specs.State.{CommitsShowing, FailsToQuery, IsNotRun}
 
 abbrev pub Page : Type 0
 Page = Term × Term

@@ -1,9 +1,6 @@
 -- A call that returns out of memory ended on a statement that returned it.
 use Rattle.std.proofs.Common.{◌≡◌, List, ℕ, refl, ◌∙◌}
-use Rattle.sqlite.specs.Order.{Row}
-use Rattle.sqlite.specs.State.{State}
-use Rattle.tables.specs.declared.fault.TableFault.TheVariants.{Memory}
-use Rattle.tables.specs.Causes.{FailsToWrite, LacksMemory}
+use Rattle.tables.proofs.Common.{Row, State, Memory, FailsToWrite, LacksMemory}
 use Rattle.tables.proofs.Causes.{inside_so, moment_of}
 
 -- a statement

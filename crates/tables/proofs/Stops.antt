@@ -1,33 +1,10 @@
 -- Where a write stops that sets off no action, and that no limit of steps ends: at its one edit.
 use Rattle.std.proofs.Common.{◌≡◌, inl, inr, ℕ, zero, suc, ◌/◌, List, [], ◌∷◌, ◌++◌, Option, Some, None, Ok, Err, true, sym, ap, subst, ◌∙◌, append-nil, length, length-append, slice_get, arith, Any}
-use Rattle.sqlite.specs.declared.error.Error.{Error}
-use Rattle.sqlite.specs.Order.{Row}
-use Rattle.sqlite.specs.Schema.{Schema}
-use Rattle.sqlite.specs.Table.{Table}
-use Rattle.sqlite.specs.Term.{Term}
-use Rattle.sqlite.specs.Tree.{Trees}
-use Rattle.sqlite.specs.Command.{Command}
-use Rattle.sqlite.specs.Command.TheVariants.{Insert, Update, Delete}
-use Rattle.sqlite.specs.Source.TheVariants.{Values}
-use Rattle.sqlite.specs.Edit.{Edit, edit_of, taken_by}
-use Rattle.sqlite.specs.Rowids.TheVariants.{Given}
-use Rattle.sqlite.specs.Effect.{Database, Answers, value_rows}
-use Rattle.sqlite.specs.Rows.{Task, Written, Queried, Sourced, Inserts, Updates, Deletes}
-use Rattle.sqlite.specs.Does.{Does, Concludes, OnRows, WritesRows}
-use Rattle.sqlite_typing.specs.Types.{accepts_program, accepts_terms}
+use Rattle.tables.proofs.Common.{Error, Row, Schema, Table, Term, Trees, Command, Insert, Update, Delete, Values, Edit, edit_of, taken_by, Given, Database, Answers, value_rows, Task, Written, Queried, Sourced, Inserts, Updates, Deletes, Does, Concludes, OnRows, WritesRows, accepts_program, accepts_terms, Program, Enforced, lets_of, Refers, Leads, Writes, works, ids_of, one_step, IsRefusedIn, plain_mode}
 use Rattle.sqlite_sql.specs.Program.{ProgramOverflows}
-use Rattle.sqlite_schema.specs.declared.program.Program.{Program}
-use Rattle.sqlite_schema.specs.declared.schema.Keys.TheVariants.{Enforced}
 use Rattle.sqlite_schema.specs.declared.schema.Among.TheVariants.{All}
-use Rattle.sqlite_schema.specs.Program.{lets_of}
-use Rattle.sqlite_schema.specs.Rules.{Refers}
 use Rattle.sqlite_rules.specs.declared.error.Refusal.{Refusal}
-use Rattle.sqlite_rules.specs.Action.{Leads, Writes, works}
-use Rattle.sqlite_rules.specs.Calls.{ids_of}
-use Rattle.sqlite.proofs.Callers.{one_step}
 use Rattle.tables.proofs.SelectAll.{found_program}
-use Rattle.tables.specs.Causes.{IsRefusedIn}
-use Rattle.tables.specs.Inside.Causes.{plain_mode}
 use Rattle.tables.proofs.InsertKeyed.{insert_edit, no_works, went, same_value}
 use Rattle.tables.proofs.Places.{untimed}
 

@@ -1,29 +1,16 @@
 -- The texts of each table are read and resolved, by computing: the parser and the resolver run on the literal texts here, and nowhere else.
 use Rattle.std.proofs.Common.{◌≡◌, ℕ, ℤ, length, map, List, [], ◌∷◌, Bool, true, false, refl}
-use Rattle.std.proofs.lemmas.Bool.{and_parts}
+use Rattle.tables.proofs.Common.{and_parts, Row, rowid, Term, col, Int, Words, Edition, Supervisor, Project, Student, Round, OldChoice, OldPlacement, Import, RoundAim, Choice, Placement, Group, Key, OfList, Placed, keyed, kinds_of, shared_by, shared_kinds, Place, cells, choices, made_at, shape_of, sql_of, table_at, removal, begins_with, goes_on, Schema, Output}
 use Rattle.sqlite_tied.specs.Compute.{everything}
 use Rattle.sqlite.specs.Listing.{listing_schema}
-use Rattle.sqlite.specs.Order.{Row}
 use Rattle.sqlite.specs.Ops.{unary}
-use Rattle.sqlite.specs.Tree.{rowid}
-use Rattle.sqlite.specs.Term.{Term, col}
-use Rattle.sqlite.specs.declared.types.Value.TheVariants.{Int, Text as Words}
 use Rattle.sqlite_value.specs.Keys.{first_key}
 use Rattle.row_model.specs.declared.table.Table.{Table}
-use Rattle.row_model.specs.declared.table.Table.TheVariants.{Edition, Supervisor, Project, Student, Round, OldChoice, OldPlacement, Import, RoundAim, Choice, Placement}
-use Rattle.row_model.specs.declared.row.Group.{Group}
-use Rattle.row_model.specs.declared.row.Group.TheVariants.{Key, List as OfList, Placed}
-use Rattle.row_model.specs.Rows.{keyed, kinds_of, shared_by, shared_kinds}
-use Rattle.tables.specs.Table.{Place, cells, choices, made_at, shape_of, sql_of, table_at}
-use Rattle.tables.specs.Inside.Table.{removal}
-use Rattle.tables.specs.Writes.{begins_with, goes_on}
 use Rattle.tables.proofs.Texts.{Anywhere, AreAccepted, AreFound, AreRead, AreTested, Each, Gives, IsShown, Removal, Removes, Texts, either}
 use Rattle.tables.proofs.Forms.{delete_of, finds_of, outs_of, read_as, values_of}
 use Rattle.tables.proofs.InsertRow.{cast_bytes, cast_id, cast_null, cast_int}
 use Rattle.tables.proofs.QueryRows.{hit}
 use Rattle.tables.proofs.SelectAll.{IsAccepted, IsFirst}
-use Rattle.sqlite.specs.Schema.{Schema}
-use Rattle.sqlite_resolve.specs.declared.scope.Output.{Output}
 use Rattle.tables.proofs.UpdateRow.{showing}
 use Rattle.sqlite_trees.specs.Sound.{begins, fits_kind, is_free_name, same_name}
 use Rattle.sqlite_value.specs.Order.{value_cmp}

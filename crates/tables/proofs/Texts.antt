@@ -1,49 +1,18 @@
 -- The texts of a table mean what its row declares. A table gives `Texts`: that its texts are read as the forms of its shape, and what
 -- these are resolved to over the table, which the resolver computes of the literal texts. The rest is here, once for all tables.
 use Rattle.std.proofs.Common.{◌≡◌, ℕ, ℤ, suc, ◌/◌, slice_get, ◌^◌, List, [], ◌∷◌, length, map, take, drop, slice_range, arith, nat_lt, pos, Bool, true, false, None, Some, Ok, Err, refl, ap}
-use Rattle.std.proofs.lemmas.List.{take_all}
-use Rattle.sqlite.specs.declared.types.Value.TheVariants.{Null, Int, Text as Words, Blob}
-use Rattle.sqlite.specs.Order.{Row}
-use Rattle.sqlite.specs.Schema.{Schema}
-use Rattle.sqlite.specs.Term.{Term, col}
-use Rattle.sqlite.specs.Command.{Command}
-use Rattle.sqlite.specs.Command.TheVariants.{CreateTable as MakesTable}
-use Rattle.sqlite.specs.Compile.{first, compiled, planned, meaning, command, create_table, delete, update, timed, returning, shows, with_command, new_rows, table_defined_by, table_in}
-use Rattle.sqlite.specs.Listing.{listing_schema, if_select, is_select}
-use Rattle.sqlite_resolve.specs.Lowering.{Checked, and_then}
-use Rattle.sqlite_syntax.specs.declared.statement.Parsed.{Parsed}
-use Rattle.sqlite.specs.Source.TheVariants.{Values}
-use Rattle.sqlite.specs.Tree.{rowid}
-use Rattle.sqlite.specs.Cast.{cast_row}
-use Rattle.sqlite.specs.Effect.{value_rows}
-use Rattle.sqlite.specs.Edit.{with_rowid}
-use Rattle.sqlite.specs.Rowids.TheVariants.{Chosen}
-use Rattle.sqlite_resolve.specs.Body.{result}
-use Rattle.sqlite_resolve.specs.Expr.{lower}
-use Rattle.sqlite_resolve.specs.Select.{outermost}
-use Rattle.sqlite.specs.Rows.{shown}
-use Rattle.sqlite_catalog.proofs.StepLemmas.{same_itself}
-use Rattle.sqlite_schema.specs.Names.{table_named}
-use Rattle.sqlite_trees.specs.View.{is_int}
-use Rattle.sqlite_sql.specs.Term.{eval_all}
-use Rattle.sqlite_ast.specs.declared.TableBody.{TableBody}
+use Rattle.tables.proofs.Common.{take_all, Null, Int, Words, Row, Schema, Term, col, Command, MakesTable, first, with_command, new_rows, if_select, is_select, Checked, and_then, Parsed, Values, rowid, cast_row, value_rows, with_rowid, Chosen, result, lower, outermost, shown, same_itself, table_named, is_int, eval_all, TableBody, updated, deleted, Output, NoSuchTable, Kind, Key, Cells, are_of, keyed, kinds_of, shared_kinds, TableShape, Sql, Place, Lists, laid_out, rules_of, shape_of, sql_of, table_at, cells, values, begins_with, goes_on, accepts_terms}
+use Rattle.sqlite.specs.declared.types.Value.TheVariants.{Blob}
+use Rattle.sqlite.specs.Compile.{compiled, planned, meaning, command, create_table, delete, update, timed, returning, shows, table_defined_by, table_in}
+use Rattle.sqlite.specs.Listing.{listing_schema}
 use Rattle.sqlite_ast.specs.declared.Statement.TheVariants as written
 use Rattle.sqlite_resolve.specs.Define as define
-use Rattle.sqlite_resolve.specs.Write.{updated, deleted}
-use Rattle.sqlite_resolve.specs.declared.scope.Output.{Output}
-use Rattle.sqlite_resolve.specs.declared.error.CompileError.TheVariants.{NoSuchTable}
 use Rattle.sqlite_tied.specs.Compute.{everything}
 use Rattle.row_model.specs.declared.cell.Cell.TheVariants.{Text, Number, Bytes}
-use Rattle.row_model.specs.declared.cell.Kind.{Kind}
 use Rattle.row_model.specs.declared.cell.Kind.TheVariants as kind
-use Rattle.row_model.specs.declared.row.Group.TheVariants.{Key}
 use Rattle.row_model.specs.declared.table.Table.{Table}
-use Rattle.row_model.specs.Rows.{Cells, are_of, keyed, kinds_of, shared_kinds}
-use Rattle.tables.specs.Table.{TableShape, Sql, Place, Lists, laid_out, rules_of, shape_of, sql_of, table_at, cells, values}
-use Rattle.tables.specs.Writes.{begins_with, goes_on}
 use Rattle.tables.proofs.CreateTable.{IsCreate, made_command}
 use Rattle.tables.proofs.InsertRow.{IsInsert}
-use Rattle.sqlite_typing.specs.Types.{accepts_terms}
 use Rattle.tables.proofs.QueryRows.{hit}
 use Rattle.tables.proofs.SelectAll.{IsAccepted, IsFirst, finding}
 use Rattle.tables.proofs.DeleteRows.{IsDelete}

@@ -1,23 +1,12 @@
 -- What the statements of each table do.
 use Rattle.std.proofs.Common.{◌≡◌, ℕ, take, List, [], subst, true, Option, Result, Ok, Err, IfOk, Vec}
-use Rattle.std.proofs.lemmas.List.{take-map}
+use Rattle.tables.proofs.Common.{take-map, Database, Row, State, Executes, CommitsShowing, Trees, TableFault, IsKeyed, Group, Cells, are_of, keyed, kinds_of, shared_by, shared_kinds, Sql, made_here, rules_of, shape_of, sql_of, table_at, value_of, values, entering, removal, Creates, Enters, Leaves, Puts, goes_on, HasRun, RanQuery, HasStepped, Shows, Rests, Edit, FailsToRead, IsMade, IsRefusedIn, IsStopped, IsTableMade, IsUnmade, OfEntry, OfLeaving, IsUnread, ShowsInOrder, IsHindered, Storage}
 use Rattle.std.specs.declared.alloc.Global.{Global}
-use Rattle.sqlite.specs.Effect.{Database}
-use Rattle.sqlite.specs.Order.{Row}
-use Rattle.sqlite.specs.State.{State, Executes, Shown, CommitsShowing}
-use Rattle.sqlite.specs.Tree.{Trees}
-use Rattle.tables.specs.declared.fault.TableFault.{TableFault}
-use Rattle.tables.specs.Keyed.{IsKeyed}
+use Rattle.sqlite.specs.State.{Shown}
 use Rattle.row_model.specs.declared.table.Table.{Table}
-use Rattle.row_model.specs.declared.row.Group.{Group}
-use Rattle.row_model.specs.Rows.{Cells, are_of, key_in, keyed, kinds_of, shared_by, shared_kinds}
-use Rattle.tables.specs.Table.{Sql, made_here, rules_of, shape_of, sql_of, table_at, value_of, values}
-use Rattle.tables.specs.Inside.Table.{entering, removal}
-use Rattle.tables.specs.Writes.{Creates, Enters, Leaves, Puts, goes_on}
+use Rattle.row_model.specs.Rows.{key_in}
 use Rattle.tables.specs.declared.statements.Entering.{Entering}
 use Rattle.tables.specs.declared.statements.Entering.TheVariants.{InPlace, New}
-use Rattle.tables.specs.Inside.Steps.{HasRun, RanQuery}
-use Rattle.tables.specs.Steps.{HasStepped, Shows, Rests}
 use Rattle.tables.proofs.CreateTable.{create_makes, create_writes}
 use Rattle.tables.proofs.InsertRow.{inserts, insert_writes}
 use Rattle.tables.proofs.UpdateRow.{update_puts, update_writes}
@@ -30,10 +19,6 @@ use Rattle.tables.proofs.Tables.{are_makable, group_text, texts}
 use Rattle.tables.proofs.Unmade.{table_made, unmade}
 use Rattle.tables.proofs.Unread.{unread_rows}
 use Rattle.tables.proofs.Refused.{delete_made, delete_refused, insert_made, insert_refused, update_made, update_refused}
-use Rattle.sqlite.specs.Edit.{Edit}
-use Rattle.tables.specs.Causes.{FailsToRead, IsMade, IsRefusedIn, IsStopped, IsTableMade, IsUnmade, OfEntry, OfLeaving, IsUnread, ShowsInOrder}
-use Rattle.tables.specs.Inside.Causes.{IsHindered}
-use Rattle.tables.specs.declared.fault.TableFault.TheVariants.{Storage}
 
 module _ (table : Table) (told : Sql) (is : told ≡ sql_of table) (old new : State) (count : ℕ) where
   -- the table was made

@@ -1,32 +1,11 @@
 -- A reading of a table is refused only where two of its rows have one rowid, or one has none.
 use Rattle.std.proofs.Common.{◌≡◌, inl, inr, ℕ, suc, get_or, ◌+◌, ◌^◌, nat_lt, List, [], ◌∷◌, map, length, Some, None, Ok, true, false, refl, sym, ap, subst, subst₂, ◌∙◌, ◌&&◌, append-nil, arith, Ordering, Less, Equal, Greater, is_eq}
-use Rattle.std.specs.List.{AllByRecursion}
-use Rattle.std.specs.List.Sorted.{IsSorted}
-use Rattle.std.specs.Ordering.{is_lt, ordering_reverse}
-use Rattle.std.proofs.lemmas.Bool.{and_from}
-use Rattle.sqlite.specs.declared.error.Error.{Error}
-use Rattle.sqlite.specs.Table.{Table as AnyTable}
-use Rattle.sqlite.specs.Order.{Row, value_cmp}
-use Rattle.sqlite.specs.Tree.{rowid}
-use Rattle.sqlite.specs.Effect.{Database, RefusesToRead}
-use Rattle.sqlite.specs.Rows.{shown}
-use Rattle.sqlite.specs.Compile.{command, read, returning, timed, with_command}
-use Rattle.sqlite.specs.Listing.{IsSourceOf}
-use Rattle.sqlite.specs.State.{State, FailsToQuery}
-use Rattle.sqlite.specs.Command.{Command}
+use Rattle.tables.proofs.Common.{AllByRecursion, IsSorted, is_lt, ordering_reverse, and_from, Error, AnyTable, Row, value_cmp, rowid, Database, RefusesToRead, shown, with_command, IsSourceOf, State, Command, out-Select, Storage, fault_of, Output, value_cmp_total, Lists, Place, TableShape, made_at, IsKeyed, have_ids, rises, FailsToRead, IsStopped, IsUnread, ShowsInOrder, by_rowid, IsText, TableFault}
+use Rattle.sqlite.specs.Compile.{command, read, returning, timed}
+use Rattle.sqlite.specs.State.{FailsToQuery}
 use Rattle.sqlite_ast.specs.declared.Statement.TheVariants as written
-use Rattle.sqlite_ast.specs.declared.Select.{out-Select}
-use Rattle.tables.specs.declared.fault.TableFault.TheVariants.{Storage}
-use Rattle.tables.specs.Faults.{fault_of}
 use Rattle.sqlite_resolve.specs.Program.{program}
-use Rattle.sqlite_resolve.specs.declared.scope.Output.{Output}
-use Rattle.sqlite_value.proofs.OrderLemmas.{value_cmp_total}
-use Rattle.tables.specs.Table.{Lists, Place, TableShape, made_at}
-use Rattle.tables.specs.Keyed.{IsKeyed, have_ids, rises}
-use Rattle.tables.specs.Causes.{FailsToRead, IsStopped, IsUnread, ShowsInOrder, by_rowid}
 use Rattle.tables.proofs.Causes.{Ended}
-use Rattle.tables.specs.Inside.Causes.{IsText}
-use Rattle.tables.specs.declared.fault.TableFault.{TableFault}
 use Rattle.tables.proofs.Ends.{not_run}
 use Rattle.tables.proofs.InsertRow.{compiled_is, understood_is}
 use Rattle.tables.proofs.Rowids.{keyed_permuted}

@@ -1,40 +1,9 @@
 -- UPDATE by key, which sets every column but the rowid.
 use Rattle.std.proofs.Common.{◌≡◌, inl, inr, ℕ, length, List, [], ◌∷◌, ◌++◌, slice_get, Option, Some, None, Ok, refl, sym, ap, subst, subst₂, ◌∙◌, true, false, map, filter, take, drop, not, cond, Bool}
-use Rattle.std.specs.List.Sorted.{IsPermutation}
-use Rattle.std.proofs.lemmas.List.{map-append}
-use Rattle.std.proofs.lemmas.List.Sorted.{IsPermutation-refl, IsPermutation-cons, IsPermutation-map, IsPermutation-middle, IsPermutation-sym, IsPermutation-trans, IsPermutation-append_left}
-use Rattle.sqlite_keyed.proofs.ListLemmas.{map-map}
-use Rattle.sqlite.specs.Schema.{Schema}
-use Rattle.sqlite.specs.Table.{Table}
-use Rattle.sqlite.specs.declared.types.Value.TheVariants.{Null}
-use Rattle.sqlite.specs.Order.{Row}
+use Rattle.tables.proofs.Common.{IsPermutation, map-append, IsPermutation-refl, IsPermutation-cons, IsPermutation-map, IsPermutation-middle, IsPermutation-sym, IsPermutation-trans, IsPermutation-append_left, map-map, Schema, Table, Null, Row, Expr, updated, eval_all, is_int, Update, Program, State, Executes, mode_of, rowid, put_row, Database, Answers, Written, Tally, Does, Mode, cast_row, edit_of, Applies, id_in, numbered, without_all, put_all, are_fresh, have_rowids, Given, ids_of, works, Has, all_has, one_step, id_of, IsKeyed, Kind, Cells, are_of, Place, TableShape, cells, laid_out, made_at, sql_values, begins_with, with_row}
 use Rattle.sqlite_ast.specs.declared.Statement.TheVariants as written
-use Rattle.sqlite_ast.specs.declared.Expr.{Expr}
-use Rattle.sqlite_resolve.specs.Write.{updated}
-use Rattle.sqlite_sql.specs.Term.{Term, col, eval_all}
-use Rattle.sqlite_trees.specs.View.{is_int}
-use Rattle.sqlite.specs.Command.TheVariants.{Update}
-use Rattle.sqlite_schema.specs.declared.program.Program.{Program}
-use Rattle.sqlite.specs.State.{State, Executes, mode_of}
-use Rattle.sqlite.specs.Tree.{rowid, put_row}
-use Rattle.sqlite.specs.Effect.{Database, Answers}
-use Rattle.sqlite.specs.Rows.{Written}
-use Rattle.sqlite.specs.Does.{Tally, Does}
-use Rattle.sqlite.specs.declared.run.Mode.{Mode}
-use Rattle.sqlite.specs.Cast.{cast_row}
-use Rattle.sqlite.specs.Edit.{edit_of, Applies, id_in, numbered, without_all, put_all, are_fresh, have_rowids}
-use Rattle.sqlite.specs.Rowids.TheVariants.{Given}
-use Rattle.sqlite_rules.specs.Calls.{ids_of}
-use Rattle.sqlite_rules.specs.Action.{works}
-use Rattle.sqlite_rules.specs.Lists.{Has}
-use Rattle.sqlite_rules.proofs.ListLemmas.{all_has}
-use Rattle.sqlite.proofs.Callers.{one_step}
-use Rattle.tables.specs.Inside.Keyed.{id_of}
-use Rattle.tables.specs.Keyed.{IsKeyed}
-use Rattle.row_model.specs.declared.cell.Kind.{Kind}
-use Rattle.row_model.specs.Rows.{Cells, are_of}
-use Rattle.tables.specs.Table.{Place, TableShape, cells, laid_out, made_at, values as sql_values}
-use Rattle.tables.specs.Writes.{begins_with, with_row, Puts}
+use Rattle.sqlite_sql.specs.Term.{Term, col}
+use Rattle.tables.specs.Writes.{Puts}
 use Rattle.tables.proofs.Places.{listed_along}
 use Rattle.tables.proofs.InsertKeyed.{went, same_value}
 use Rattle.tables.proofs.Understood.{IsWriteText, runs_by}

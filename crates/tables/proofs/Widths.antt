@@ -1,12 +1,7 @@
 -- No row has more than four cells, and no key or part has.
 use Rattle.std.proofs.Common.{◌≡◌, ◌≤◌, refl, suc, List, [], ◌∷◌, length, true, ap, arith}
-use Rattle.std.proofs.lemmas.Bool.{and_parts}
-use Rattle.row_model.specs.declared.cell.Kind.{Kind}
-use Rattle.row_model.specs.declared.row.Group.{Group}
-use Rattle.row_model.specs.declared.row.Group.TheVariants.{Key}
+use Rattle.tables.proofs.Common.{and_parts, Kind, Group, Key, Edition, Cells, are_of, kinds_of, shared_kinds}
 use Rattle.row_model.specs.declared.table.Table.{Table}
-use Rattle.row_model.specs.declared.table.Table.TheVariants.{Edition}
-use Rattle.row_model.specs.Rows.{Cells, are_of, kinds_of, shared_kinds}
 
 are_long : (kinds : List Kind) (row : Cells) → are_of kinds row ≡ true → length row ≡ length kinds
 are_long [] [] fits = refl

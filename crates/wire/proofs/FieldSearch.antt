@@ -1,12 +1,6 @@
 -- Fields that are looked through one by one.
 use Rattle.std.proofs.Common.{◌≡◌, ℕ, suc, ◌+◌, ◌<◌, ◌≤◌, Bool, true, false, ◌||◌, List, [], ◌++◌, length, map, drop, get_or, Option, Some, None, sym, ap, subst, drop-cons, add-one}
-use Rattle.std.proofs.lemmas.List.{drop_all}
-use Rattle.std.specs.List.{list_any}
-use Rattle.std.specs.Option.{option_map, option_to_list}
-use Rattle.httparse.specs.declared.spans.Span.{Span}
-use Rattle.httparse.specs.declared.spans.HeaderSpan.{HeaderSpan}
-use Rattle.httparse.specs.Spans.{header_bytes, span_bytes}
-use Rattle.wire.specs.Messages.{lengths, length_of, framing_by}
+use Rattle.wire.proofs.Common.{drop_all, list_any, option_map, option_to_list, Span, HeaderSpan, header_bytes, span_bytes, lengths, length_of, framing_by}
 
 -- the next of them is looked at
 any_next : {X Y : Type 0} (test : Y → Bool) (f : X → Y) (xs : List X) (i : ℕ) (d : X) (b : Bool) → list_any test (map f (drop i xs)) ≡ list_any test (map f xs) → i < length xs

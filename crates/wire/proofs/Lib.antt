@@ -1,3 +1,4 @@
+mod Common
 pub mod Windows
 pub mod WholeStream
 pub mod Unique

@@ -1,21 +1,7 @@
 -- One iteration of the service.
 use Rattle.std.proofs.Common.{◌≡◌, ℕ, ◌+◌, ◌<◌, inl, inr, List, [], ◌∷◌, ◌++◌, length, take, drop, Option, Result, Ok, Err, IfOk, OnOk, IfErr, OnErr, refl, sym, ◌∙◌, subst, add-zero, length-append, arith, ap}
-use Rattle.std.specs.List.{concat}
-use Rattle.std.specs.Io.KnownBytes.{Appends}
-use Rattle.wire.specs.declared.TheConstants.{MAX_MESSAGES}
-use Rattle.wire.specs.declared.front.Parts.{Parts}
-use Rattle.wire.specs.declared.front.Judgement.TheVariants.{Whole, Open}
-use Rattle.wire.specs.declared.outcome.End.{End}
-use Rattle.wire.specs.Messages.{Stops}
-use Rattle.wire.specs.Inside.Judged.{Judges}
-use Rattle.wire.specs.declared.outcome.Served.{Served}
+use Rattle.wire.proofs.Common.{concat, Appends, MAX_MESSAGES, Parts, Whole, Open, End, Stops, Judges, Served, Memory, Read, Write, MessageText, unread, last_words, last_count, read_failed, write_failed, said_at, SoFar, GoesOnServing, BreaksOff, IsServed, WroteUntil, ServedTo, Grows}
 use Rattle.wire.specs.declared.outcome.StreamFault.{StreamFault}
-use Rattle.wire.specs.declared.outcome.StreamFault.TheVariants.{Memory, Read, Write}
-use Rattle.wire.specs.Run.{MessageText, unread, last_words, last_count, read_failed, write_failed}
-use Rattle.wire.specs.Inside.Run.{said_at}
-use Rattle.wire.specs.Inside.Served.{SoFar, GoesOnServing, BreaksOff}
-use Rattle.wire.specs.Served.{IsServed, WroteUntil, ServedTo}
-use Rattle.wire.specs.Inside.Taken.{Grows}
 use Rattle.wire.proofs.Known.{appends_compose, appends_none, consumes_none}
 use Rattle.wire.proofs.Runs.{reads_on, answers_on, splits_more, run_more, said_same, ends_here}
 

@@ -1,7 +1,6 @@
 -- The end of a stream at the end of its reader.
 use Rattle.std.proofs.Common.{◌≡◌, ℕ, List, Option, None, IfNone, sym, subst}
-use Rattle.wire.specs.declared.front.Judgement.TheVariants.{Open}
-use Rattle.wire.specs.Inside.Judged.{Judges}
+use Rattle.wire.proofs.Common.{Open, Judges}
 
 -- what is said where nothing was found
 pub at_none : {A : Type 0} (P : Type 0) (found : Option A) → found ≡ None → IfNone found P → P

@@ -1,19 +1,6 @@
 -- A run goes on by one message.
 use Rattle.std.proofs.Common.{◌≡◌, ℕ, ◌+◌, ◌<◌, List, [], ◌∷◌, ◌++◌, length, drop, Option, refl, sym, ap, ◌∙◌, subst, append_assoc, append-nil, length-append, arith}
-use Rattle.std.specs.List.{concat}
-use Rattle.std.specs.Io.KnownBytes.{Appends}
-use Rattle.wire.specs.declared.TheConstants.{MAX_MESSAGES}
-use Rattle.wire.specs.declared.front.Parts.{Parts}
-use Rattle.wire.specs.declared.front.Judgement.TheVariants.{Whole}
-use Rattle.wire.specs.declared.outcome.End.{End}
-use Rattle.wire.specs.declared.outcome.End.TheVariants.{Closed, Unfinished, BadHead, TooLarge, Hundred}
-use Rattle.wire.specs.Messages.{Message, EndsAt, Splits, BeginsWith, Stops}
-use Rattle.wire.specs.Inside.Judged.{IsPartsOf, Judges}
-use Rattle.wire.specs.Run.{MessageText, said, RunsMessages, unread, last_words, last_count}
-use Rattle.wire.specs.Inside.Run.{said_at}
-use Rattle.wire.specs.Inside.Served.{SoFar}
-use Rattle.wire.specs.Served.{ServedTo}
-use Rattle.wire.specs.Inside.Taken.{Grows}
+use Rattle.wire.proofs.Common.{concat, Appends, MAX_MESSAGES, Parts, Whole, End, Closed, Unfinished, BadHead, TooLarge, Hundred, Message, EndsAt, Splits, BeginsWith, Stops, IsPartsOf, Judges, MessageText, said, RunsMessages, unread, last_words, last_count, said_at, SoFar, ServedTo, Grows}
 use Rattle.wire.proofs.Known.{appends_compose, appends_none, consumes_compose, consumes_none}
 
 -- one more message is split off

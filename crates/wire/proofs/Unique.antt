@@ -1,14 +1,6 @@
 -- A stream has one list of messages and one end.
 use Rattle.std.proofs.Common.{◌≡◌, ℕ, suc, ◌+◌, ◌<◌, ◌≤◌, ◌⊎◌, inl, inr, true, false, List, [], ◌∷◌, ◌++◌, length, take, drop, refl, sym, ap, ◌∙◌, subst, arith, append_assoc, length-append, add-zero, zero-add}
-use Rattle.std.proofs.lemmas.List.{take_at, drop_at, append_cancel_left}
-use Rattle.httparse.specs.Grammar.{RequestHead, print_request, HasNoRequest}
-use Rattle.httparse.proofs.GrammarLemmas.{request_unique, print_request-append}
-use Rattle.wire.specs.declared.TheConstants.{MAX_MESSAGES}
-use Rattle.wire.specs.declared.fields.Framing.{Framing}
-use Rattle.wire.specs.declared.fields.Framing.TheVariants.{Length, Wrong, Long}
-use Rattle.wire.specs.declared.outcome.End.{End}
-use Rattle.wire.specs.declared.outcome.End.TheVariants.{Closed, Unfinished, BadHead, TooLarge, Hundred}
-use Rattle.wire.specs.Messages.{Message, window, has_line, HeadAt, HeadFramed, framing, IsMalformed, BodyCut, BeginsWith, Stops, Splits, EndsAt, Messages}
+use Rattle.wire.proofs.Common.{take_at, drop_at, append_cancel_left, RequestHead, print_request, HasNoRequest, request_unique, print_request-append, MAX_MESSAGES, Framing, Length, Wrong, Long, End, Closed, Unfinished, BadHead, TooLarge, Hundred, Message, window, has_line, HeadAt, HeadFramed, framing, IsMalformed, BodyCut, BeginsWith, Stops, Splits, EndsAt, Messages}
 
 -- one head stands at a place
 head_unique : (rest : List ℕ) (h k : RequestHead) → HeadAt rest h → HeadAt rest k → h ≡ k

@@ -1,19 +1,6 @@
 -- What the window says, and what that says of the whole stream.
 use Rattle.std.proofs.Common.{◌≡◌, ℕ, ◌+◌, ◌-◌, ◌<◌, ◌≤◌, inl, inr, true, false, List, ◌++◌, length, take, drop, map, slice_range, refl, sym, ap, ◌∙◌, subst, arith, append_assoc, length-append}
-use Rattle.std.proofs.Math.Seq.{drop-append_seam, drop-append-add}
-use Rattle.std.proofs.lemmas.List.{length-take, length-drop, take-append-drop, take-append-le, drop-append-le}
-use Rattle.httparse.specs.Grammar.{RequestHead, print_request, ReadsRequest, HasNoRequest, NeverHasRequest}
-use Rattle.httparse.specs.Spans.{span_bytes, IsRequestAt, IsRequestWithin, header_bytes}
-use Rattle.httparse.specs.declared.spans.Span.{Span}
-use Rattle.httparse.specs.declared.spans.HeaderSpan.{HeaderSpan}
-use Rattle.httparse.specs.declared.spans.RequestSpans.{RequestSpans}
-use Rattle.wire.specs.declared.TheConstants.{MAX_HEAD_BYTES, MAX_BODY_BYTES}
-use Rattle.wire.specs.declared.fields.Framing.{Framing}
-use Rattle.wire.specs.declared.fields.Framing.TheVariants.{Length}
-use Rattle.wire.specs.declared.front.Judgement.TheVariants.{Whole, Stop, Open}
-use Rattle.wire.specs.declared.outcome.End.TheVariants.{BadHead, TooLarge}
-use Rattle.wire.specs.Messages.{window, HeadFramed, framing, framing_of, has_line, IsMalformed}
-use Rattle.wire.specs.Inside.Judged.{Judges}
+use Rattle.wire.proofs.Common.{drop-append_seam, drop-append-add, length-take, length-drop, take-append-drop, take-append-le, drop-append-le, RequestHead, print_request, ReadsRequest, HasNoRequest, NeverHasRequest, span_bytes, IsRequestAt, IsRequestWithin, header_bytes, Span, HeaderSpan, RequestSpans, MAX_HEAD_BYTES, MAX_BODY_BYTES, Framing, Length, Whole, Stop, Open, BadHead, TooLarge, window, HeadFramed, framing, framing_of, has_line, IsMalformed, Judges}
 use Rattle.wire.proofs.Windows.{head_stays, malformed_stays}
 
 -- what the spans say is what the head says

@@ -1,14 +1,8 @@
 -- A head, a fault and their absence in a window stay as more bytes come.
 use Rattle.std.proofs.Common.{◌≡◌, ◌≢◌, ℕ, zero, suc, ◌*◌, ◌<◌, ◌≤◌, inl, inr, Bool, true, false, ◌||◌, not, ◌==◌, List, [], ◌∷◌, ◌++◌, length, take, drop, drop-cons, get_or, if◌then◌else◌, refl, sym, ap, ◌∙◌, subst, arith, append_assoc, length-append, All}
-use Rattle.std.specs.List.{flat_map}
-use Rattle.std.proofs.lemmas.Bool.Decides.{nat_tests}
-use Rattle.std.proofs.lemmas.List.{drop_all}
+use Rattle.wire.proofs.Common.{flat_map, nat_tests, drop_all, is_uri_byte, AllPass, LineEnd, crlf, lf, print_end, print_blank, Field, print_field, IsField, RequestHead, ReadsRequest, HasNoRequest, NeverHasRequest, MayBecomeRequest, EndsInTarget, RequestExceeds, ReadsRequest-append, print_request-append, MAX_HEAD_BYTES, window, HeadAt, has_line, IsMalformed}
 use Rattle.std.proofs.lemmas.List.Elements.{All-head, All-tail}
-use Rattle.httparse.specs.Grammar.{is_token_byte, is_uri_byte, AllPass, LineEnd, crlf, lf, print_end, print_blank, Field, print_field, IsField, RequestHead, ReadsRequest, HasNoRequest, NeverHasRequest, MayBecomeRequest, EndsInTarget}
-use Rattle.httparse.specs.Spans.{RequestExceeds}
-use Rattle.httparse.proofs.GrammarLemmas.{ReadsRequest-append, print_request-append}
-use Rattle.wire.specs.declared.TheConstants.{MAX_HEAD_BYTES}
-use Rattle.wire.specs.Messages.{window, HeadAt, has_line, IsMalformed}
+use Rattle.httparse.specs.Grammar.{is_token_byte}
 
 -- ---- the window grows
 

@@ -1,5 +1,5 @@
 use Rattle.std.proofs.Common.{◌≡◌, ◌++◌, drop}
-use Rattle.editions.specs.Editions.{aims_of}
+use Rattle.editions.proofs.Common.{aims_of}
 use Rattle.editions.proofs.aims_of.Given as goal
 
 abbrev pub invariant-loop-row : goal.invariant-loop-row

@@ -1,5 +1,5 @@
 use Rattle.std.proofs.Common.{◌≡◌, ◌++◌, drop, filter, map}
-use Rattle.editions.specs.Editions.{is_old, renamed_row}
+use Rattle.editions.proofs.Common.{is_old, renamed_row}
 use Rattle.editions.proofs.all_old_renamed.Given as goal
 
 abbrev pub invariant-loop-row : goal.invariant-loop-row

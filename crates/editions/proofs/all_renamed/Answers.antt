@@ -1,5 +1,5 @@
 use Rattle.std.proofs.Common.{arith}
-use Rattle.std.proofs.lemmas.Grind.{common_steps}
+use Rattle.editions.proofs.Common.{common_steps}
 use Rattle.editions.proofs.all_renamed.Goals as goal
 
 pub loop-row-preserved : goal.loop-row-preserved

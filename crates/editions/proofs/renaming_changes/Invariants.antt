@@ -1,6 +1,5 @@
 use Rattle.std.proofs.Common.{◌≡◌, ◌++◌, map}
-use Rattle.editions.specs.Editions.{renaming_changes}
-use Rattle.row_model.specs.declared.row.Change.TheVariants.{Add}
+use Rattle.editions.proofs.Common.{renaming_changes, Add}
 use Rattle.editions.proofs.renaming_changes.Given as goal
 
 abbrev pub invariant-loop-row : goal.invariant-loop-row

@@ -1,13 +1,7 @@
 -- The places that solving found stand for a matching of the round's instance that is best by its aim, and the office closes with it.
-use Rattle.std.specs.Prelude.{◌≡◌, ℕ, IsTrue, Option, Result, Ok, Err}
-use Rattle.spa.specs.declared.aim.Aim.{Aim}
-use Rattle.spa.specs.Coded.{CodePair, IsBestByCodes, taken}
-use Rattle.spa.specs.Named.{Named, IsFit, instance_of}
-use Rattle.spa.specs.Matching.{IsBest}
+use Rattle.outside.proofs.Common.{◌≡◌, ℕ, IsTrue, Option, Result, Ok, Err, Aim, CodePair, IsBestByCodes, taken, Named, instance_of, IsBest, State, aim_of, last_round, round_is_open, round_instance, MayClose}
+use Rattle.spa.specs.Named.{IsFit}
 use Rattle.spa.specs.Matched.{pairs, IsMatched}
-use Rattle.rolls.specs.State.{State, aim_of, last_round, round_is_open}
-use Rattle.rolls.specs.Instances.{round_instance}
-use Rattle.rolls.specs.Closing.{MayClose}
 use Rattle.rolls.specs.Answers.{IsClosed}
 use Rattle.rolls.specs.declared.request.Done.{Done}
 use Rattle.closing.specs.Places.{ArePlacesOf, AreTaken}

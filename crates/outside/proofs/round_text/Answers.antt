@@ -1,5 +1,5 @@
 use Rattle.std.proofs.Common.{refl, ap, ◌∙◌}
-use Rattle.rolls.specs.State.{State, last_round, placed_in_project, placed_with_supervisor}
+use Rattle.outside.proofs.Common.{State, last_round, placed_in_project, placed_with_supervisor}
 use Rattle.rolls.specs.declared.request.Reply.TheVariants as reply
 use Rattle.intake.specs.Lines.{instance_text}
 use Rattle.outside.proofs.round_text.Goals as goal

@@ -1,5 +1,5 @@
 use Rattle.std.proofs.Common.{◌≡◌, List, ℕ, ◌++◌, ap, ◌∙◌, append_assoc}
-use Rattle.api.specs.Text.{status_line, fields}
+use Rattle.api.proofs.Common.{status_line, fields}
 use Rattle.api.proofs.answers.answer_head.Goals as goal
 
 pub returns-clause-items : goal.returns-clause-items

@@ -1,10 +1,6 @@
 -- A number more goes from what is left to what is written.
 use Rattle.std.proofs.Common.{◌≡◌, ◌≤◌, ◌+◌, ◌++◌, ◌∷◌, [], Bool, true, false, ℕ, List, length, map, drop, get_or, decimal, refl, sym, ap, ◌∙◌, subst, arith, append_assoc}
-use Rattle.std.proofs.lemmas.List.{drop_all, length-append}
-use Rattle.serde_json.specs.Data.{number, unsigned}
-use Rattle.serde_json.specs.View.{items_of}
-use Rattle.serde_json.specs.Written.{comma_if, items_text}
-use Rattle.std.proofs.lemmas.List.{drop_more}
+use Rattle.api.proofs.Common.{drop_all, length-append, number, unsigned, items_of, comma_if, items_text, drop_more}
 use Rattle.api.proofs.answers.push_numbers.Goals as goal
 
 -- the text of the numbers that are left

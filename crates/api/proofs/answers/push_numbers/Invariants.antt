@@ -1,10 +1,7 @@
 -- What is written, then the text of the numbers that are left, is the text of all.
 use Rattle.std.proofs.Common.{◌≡◌, ◌≤◌, ◌+◌, ◌*◌, ◌++◌, Bool, drop, map}
 use Rattle.arrayvec.specs.ArrayVec.{array_vec_len}
-use Rattle.serde_json.specs.Data.{number, unsigned}
-use Rattle.serde_json.specs.View.{items_of}
-use Rattle.serde_json.specs.Written.{comma_if, items_text}
-use Rattle.api.specs.Texts.{numbers_text}
+use Rattle.api.proofs.Common.{number, unsigned, items_of, comma_if, items_text, numbers_text}
 use Rattle.api.proofs.answers.push_numbers.Given as goal
 
 abbrev pub invariant-loop-number : goal.invariant-loop-number

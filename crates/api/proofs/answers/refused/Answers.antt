@@ -1,5 +1,5 @@
 use Rattle.std.proofs.Common.{◌≡◌, List, ℕ, [], ◌++◌, ap, ◌∙◌}
-use Rattle.api.specs.Text.{fault_body, json_answer}
+use Rattle.api.proofs.Common.{fault_body, json_answer}
 use Rattle.api.proofs.answers.refused.Goals as goal
 
 -- what was appended to an empty body

@@ -1,7 +1,5 @@
 use Rattle.std.proofs.Common.{rules, ◌≡◌, ℕ, List, None, Bool, true, if◌then◌else◌, sym, ap, ◌∙◌}
-use Rattle.serde_json.specs.Data.{Data}
-use Rattle.serde_json.specs.View.{view}
-use Rattle.api.specs.Members.{has_size, text_in, lone_text}
+use Rattle.api.proofs.Common.{Data, view, has_size, text_in, lone_text}
 use Rattle.api.proofs.members.lone_text.Goals as goal
 
 -- the text of an object of one member

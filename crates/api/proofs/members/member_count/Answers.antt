@@ -1,10 +1,7 @@
 use Rattle.std.proofs.Common.{◌≡◌, List, [], ◌∷◌, length, map, Some, option_map, String, refl, sym, ap, ◌∙◌, arith}
-use Rattle.std.proofs.lemmas.List.{length-map}
+use Rattle.api.proofs.Common.{length-map, Data, view, members_of, members_view, members_count}
 use Rattle.std.specs.declared.alloc.Global.{Global}
-use Rattle.serde_json.specs.Data.{Data}
-use Rattle.serde_json.specs.View.{view, members_of, members_view}
 use Rattle.serde_json.specs.declared.value.Value.{Value}
-use Rattle.api.specs.Members.{members_count}
 use Rattle.api.proofs.members.member_count.Goals as goal
 
 -- as many members as were given

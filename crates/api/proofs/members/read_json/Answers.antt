@@ -1,6 +1,6 @@
 use Rattle.std.proofs.Common.{◌≡◌, Bool, true, false, inr, refl, sym, ◌∙◌}
 use Rattle.api.proofs.Json.{json_of-read, json_of-unread}
-use Rattle.serde_json.specs.View.{view}
+use Rattle.api.proofs.Common.{view}
 use Rattle.api.proofs.members.read_json.Goals as goal
 
 pub returns-in-Ok-clause-ok : goal.returns-in-Ok-clause-ok

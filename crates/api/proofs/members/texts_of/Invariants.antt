@@ -1,7 +1,6 @@
 -- The texts of all items are those that were read and then those of the items that are left.
 use Rattle.std.proofs.Common.{◌≡◌, ◌++◌, option_map, drop}
-use Rattle.serde_json.specs.View.{items_view}
-use Rattle.api.specs.Members.{texts_of}
+use Rattle.api.proofs.Common.{items_view, texts_of}
 use Rattle.api.proofs.members.texts_of.Given as goal
 
 abbrev pub invariant-loop-item : goal.invariant-loop-item

@@ -1,6 +1,5 @@
 use Rattle.std.proofs.Common.{List, ℕ, MatchOption, subst}
-use Rattle.api.specs.Inside.Routes.{NamesBy}
-use Rattle.api.specs.Routes.{IsNowhere}
+use Rattle.api.proofs.Common.{NamesBy, IsNowhere}
 use Rattle.api.proofs.requests.by_path.Goals as goal
 
 pub returns-in-Ok : goal.returns-in-Ok

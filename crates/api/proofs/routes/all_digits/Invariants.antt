@@ -1,6 +1,6 @@
 -- All bytes are digits where those that are left are.
 use Rattle.std.proofs.Common.{◌≡◌, drop}
-use Rattle.std.specs.Str.{all_ascii_digits}
+use Rattle.api.proofs.Common.{all_ascii_digits}
 use Rattle.api.proofs.routes.all_digits.Given as goal
 
 abbrev pub invariant-loop-b : goal.invariant-loop-b

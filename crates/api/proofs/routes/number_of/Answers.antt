@@ -1,11 +1,9 @@
 -- Digits are parsed as the number that they write.
 use Rattle.std.proofs.Common.{rules, ◌≡◌, ◌<◌, ◌^◌, ℕ, List, length, nat_lt, ◌&&◌, Bool, true, Some, None, if◌then◌else◌, sym, ap, ◌∙◌, arith}
 use Rattle.std.proofs.lemmas.Str.Parse.{numerals_by_value, tells_all_ascii_digits, parse_gives, digits_value_short}
-use Rattle.std.specs.Str.{all_ascii_digits}
-use Rattle.std.specs.Str.Parse.{digits_value}
+use Rattle.api.proofs.Common.{all_ascii_digits, digits_value, lt-ltb}
 use Rattle.std.specs.Result.{result_ok}
 use Rattle.api.specs.Routes.{number_of}
-use borrow.Author.Tests.{lt-ltb}
 use Rattle.api.proofs.routes.number_of.Goals as goal
 
 -- a text that passes the three tests is a number

@@ -1,7 +1,6 @@
 -- A path that finds a row has the code that the row's parameter takes, if that fits.
 use Rattle.std.proofs.Common.{refl, sym, ap, ◌∙◌, subst}
-use Rattle.api.specs.Inside.Routes.{NamesBy}
-use Rattle.api.specs.Routes.{fits}
+use Rattle.api.proofs.Common.{NamesBy, fits}
 use Rattle.api.proofs.PathsOfRoutes.{nowhere, unfit, taken, code_read}
 use Rattle.api.proofs.routes.route_of.Goals as goal
 

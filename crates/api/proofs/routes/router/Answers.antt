@@ -1,7 +1,7 @@
 -- A route that is new is put in, and only running out of memory hinders it.
 use Rattle.std.proofs.Common.{◌≡◌, length, refl, sym, ap, ◌∙◌, arith}
 use Rattle.std.proofs.lemmas.Result.{err_from_is_err_and}
-use Rattle.std.proofs.lemmas.List.{length-map}
+use Rattle.api.proofs.Common.{length-map}
 use Rattle.matchit.proofs.OnLiterals.{matchit_on_literals}
 use Rattle.api.specs.Routes.{all_routes}
 use Rattle.api.proofs.Routers.{as_values, goes_on, first_new, is_memory, all_made}

@@ -1,5 +1,5 @@
 -- The routes that are left, put into the router as it stands, make the rows, and each of them is new.
-use Rattle.api.specs.Routes.{all_routes}
+use Rattle.api.proofs.Common.{all_routes}
 use Rattle.api.proofs.Routers.{Make, left}
 use Rattle.api.proofs.routes.router.Given as goal
 

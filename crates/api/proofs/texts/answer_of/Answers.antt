@@ -1,5 +1,5 @@
 use Rattle.std.proofs.Common.{inr, sym, subst}
-use Rattle.api.specs.Texts.{IsRead}
+use Rattle.api.proofs.Common.{IsRead}
 use Rattle.api.proofs.texts.answer_of.Goals as goal
 
 pub returns : goal.returns

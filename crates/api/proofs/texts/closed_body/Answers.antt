@@ -1,6 +1,6 @@
 -- The pieces that are appended make the text.
 use Rattle.std.proofs.Common.{◌≡◌, ℕ, List, ◌++◌, codes, decimal, append_assoc}
-use Rattle.api.specs.Texts.{numbers_text}
+use Rattle.api.proofs.Common.{numbers_text}
 use Rattle.api.proofs.texts.closed_body.Goals as goal
 
 joined : (q r s t a n b x d y e : List ℕ) → q ≡ a ++ n → r ≡ q ++ (b ++ x) → s ≡ r ++ (d ++ y) → t ≡ s ++ e → t ≡ a ++ n ++ b ++ x ++ d ++ y ++ e

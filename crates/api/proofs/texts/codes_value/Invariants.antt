@@ -1,7 +1,6 @@
 -- The values are those of the codes that were seen.
 use Rattle.std.proofs.Common.{◌≡◌, map, take}
-use Rattle.serde_json.specs.Data.{string}
-use Rattle.serde_json.specs.View.{view}
+use Rattle.api.proofs.Common.{string, view}
 use Rattle.api.proofs.texts.codes_value.Given as goal
 
 abbrev pub invariant-loop-code : goal.invariant-loop-code

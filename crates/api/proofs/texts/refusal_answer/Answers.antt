@@ -1,5 +1,5 @@
 use Rattle.std.proofs.Common.{sym, ◌∙◌}
-use Rattle.api.specs.Text.{fault_answer}
+use Rattle.api.proofs.Common.{fault_answer}
 use Rattle.api.proofs.Refusals.{told_alone}
 use Rattle.api.proofs.texts.refusal_answer.Goals as goal
 

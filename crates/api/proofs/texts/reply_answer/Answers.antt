@@ -1,12 +1,7 @@
 use Rattle.std.proofs.Common.{◌≡◌, ◌∙◌, ◌||◌, ℕ, List, [], ◌∷◌, map, Bool, false, Option, None, Some, IfOk, ap, refl, sym, subst}
-use Rattle.serde_json.specs.Data.{string}
-use Rattle.serde_json.specs.View.{items_of}
-use Rattle.serde_json.specs.Written.{has_float, items_have_float}
+use Rattle.api.proofs.Common.{string, items_of, has_float, items_have_float, answer_bytes, text_type, typed_answer, list_data, placed_data, reply_text, student_data}
 use Rattle.rolls.specs.declared.rounds.Placement.{Placement}
 use Rattle.rolls.specs.declared.request.Reply.{Reply}
-use Rattle.wire.specs.Answers.{answer_bytes}
-use Rattle.api.specs.Text.{text_type, typed_answer}
-use Rattle.api.specs.Texts.{list_data, placed_data, reply_text, student_data}
 use Rattle.api.proofs.texts.reply_answer.Goals as goal
 
 -- a student in JSON has no float, for texts have none

@@ -1,7 +1,7 @@
 -- The pieces that are appended make the text.
 use Rattle.std.proofs.Common.{◌≡◌, ℕ, List, [], ◌++◌, codes, decimal, append_assoc}
 use Rattle.spa.specs.Aims.{aim_word}
-use Rattle.api.specs.Texts.{truth_text, numbers_text}
+use Rattle.api.proofs.Common.{truth_text, numbers_text}
 use Rattle.api.proofs.texts.round_body.Goals as goal
 
 joined : (o i j h p q r s u t l v a w b x k n d y f z e : List ℕ) → o ≡ [] → i ≡ o ++ l → j ≡ i ++ v → h ≡ a ++ w ++ b → p ≡ j ++ (h ++ x) → q ≡ p ++ k → r ≡ q ++ n → s ≡ r ++ (d ++ y) → u ≡ s ++ (f ++ z) → t ≡ u ++ e

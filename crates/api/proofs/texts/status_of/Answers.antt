@@ -1,6 +1,5 @@
 use Rattle.std.proofs.Common.{◌≡◌, ◌==◌, ℕ, true, subst, sym}
-use Rattle.std.specs.List.{list_any}
-use Rattle.rolls.specs.RefusalInfo.{statuses}
+use Rattle.api.proofs.Common.{list_any, statuses}
 use Rattle.api.proofs.Short.{short}
 use Rattle.api.proofs.texts.status_of.Goals as goal
 

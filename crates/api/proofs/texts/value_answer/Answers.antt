@@ -1,6 +1,5 @@
 use Rattle.std.proofs.Common.{◌≡◌, ◌∙◌, ℕ, List, IfOk, subst}
-use Rattle.wire.specs.Answers.{answer_bytes}
-use Rattle.api.specs.Text.{json_type, typed_answer}
+use Rattle.api.proofs.Common.{answer_bytes, json_type, typed_answer}
 use Rattle.api.proofs.texts.value_answer.Goals as goal
 
 pub returns : goal.returns

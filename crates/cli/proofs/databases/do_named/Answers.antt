@@ -1,7 +1,5 @@
 use Rattle.std.proofs.Common.{inr, sym, subst}
-use Rattle.sqlite.specs.Held.{state}
-use Rattle.store.specs.Tables.{HasNone}
-use Rattle.cli.specs.Databases.{DoesOver}
+use Rattle.cli.proofs.Common.{state, HasNone, DoesOver}
 use Rattle.cli.proofs.Writers.{prints_more, printed_new}
 use Rattle.cli.proofs.databases.do_named.Goals as goal
 

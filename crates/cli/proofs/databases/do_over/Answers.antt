@@ -1,7 +1,5 @@
 use Rattle.std.proofs.Common.{refl, sym, subst, arith, inl, inr}
-use Rattle.sqlite.specs.Held.{Held, state}
-use Rattle.desk.specs.DeskState.{DeskState}
-use Rattle.cli.specs.Databases.{ComesFrom, DoesOver, IsDone, TakesTo}
+use Rattle.cli.proofs.Common.{Held, state, DeskState, ComesFrom, DoesOver, IsDone, TakesTo}
 use Rattle.cli.proofs.Opened.{found_for, was_clean, why_unopened}
 use Rattle.cli.proofs.Writers.{refused_ends, prints_more}
 use Rattle.cli.proofs.databases.do_over.Given as given

@@ -1,4 +1,4 @@
-use Rattle.sqlite.specs.Files.{file_state, over_files}
+use Rattle.cli.proofs.Common.{file_state, over_files}
 use Rattle.cli.proofs.Opened.{left_within, of_file, tells_within}
 use Rattle.cli.proofs.Writers.{prints_more}
 use Rattle.cli.proofs.named.do_on.Goals as goal

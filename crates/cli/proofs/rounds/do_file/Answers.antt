@@ -1,5 +1,4 @@
-use Rattle.cli.specs.Outcomes.{OnFile}
-use Rattle.cli.specs.Inside.Rounds.{ComesBy}
+use Rattle.cli.proofs.Common.{OnFile, ComesBy}
 use Rattle.cli.proofs.Writers.{of_file, prints_more}
 use Rattle.cli.proofs.rounds.do_file.Goals as goal
 

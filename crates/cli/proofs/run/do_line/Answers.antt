@@ -2,8 +2,7 @@ use Rattle.std.proofs.Common.{ℕ, List, refl, string_bytes, subst}
 use Rattle.rolls.specs.declared.request.Plain.TheVariants as plain
 use Rattle.rolls.specs.declared.request.Request.TheVariants as request
 use Rattle.cli.specs.declared.tasks.Task.TheVariants as task
-use Rattle.cli.specs.Imports.{IsImportOfFile}
-use Rattle.cli.specs.Inside.Rounds.{ComesBy}
+use Rattle.cli.proofs.Common.{IsImportOfFile, ComesBy}
 use Rattle.cli.specs.declared.rounds.RoundTask.TheVariants as way
 use Rattle.cli.proofs.Lines.{asked_named, done_named, file_named}
 use Rattle.cli.proofs.run.do_line.Goals as goal

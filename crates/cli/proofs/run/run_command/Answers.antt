@@ -1,11 +1,8 @@
 use Rattle.std.proofs.Common.{ap, subst, rules, refl, Ok, Err, map, string_bytes, ◌∙◌}
-use Rattle.commands.specs.Reading.{IsAnswer}
-use Rattle.commands.specs.declared.line.LineFault.{LineFault}
+use Rattle.cli.proofs.Common.{IsAnswer, LineFault, prints, prints_err, Usage}
 use Rattle.commands.specs.declared.line.LineFault.TheVariants.{Memory, Help, Version, Fault}
-use Rattle.cli.specs.Outcomes.{prints, prints_err}
 use Rattle.cli.proofs.Writers.{prints_more}
 use Rattle.cli.proofs.run.run_command.Goals as goal
-use Rattle.cli.specs.declared.status.Status.TheVariants.{Usage}
 
 pub returns-in-Ok : goal.returns-in-Ok
 returns-in-Ok g c = record { file = (Ok c.in-Ok.line, c.in-Ok.ensures, c.do_line.ensures) }

@@ -1,14 +1,6 @@
 use Rattle.std.proofs.Common.{◌≡◌, ◌∙◌, ap, arith, inl, inr, rules, sym, ℕ, List, [], Result, Ok, Err, IfOk, IfErr, MatchResult}
-use Rattle.wire.specs.declared.outcome.Served.{Served}
-use Rattle.wire.specs.declared.outcome.StreamFault.{StreamFault}
-use Rattle.wire.specs.Run.{MessageText}
-use Rattle.world.specs.WorldState.{IsPeer, Peer, PortState}
-use Rattle.web.specs.Connections.{Connect}
-use Rattle.web.specs.Serving.{AnswersFrom}
-use Rattle.web.proofs.OneMessage.{gets_at}
+use Rattle.cli.proofs.Common.{Served, StreamFault, MessageText, IsPeer, Peer, PortState, Connect, AnswersFrom, gets_at, ComesFrom, IsServed, IsUnbound, Outcome, ServesAt, of_answer, printed_reply, prints}
 use Rattle.cli.specs.declared.tasks.Task.TheVariants as task
-use Rattle.cli.specs.Databases.{ComesFrom}
-use Rattle.cli.specs.Outcomes.{IsServed, IsUnbound, Outcome, ServesAt, of_answer, printed_reply, prints}
 use Rattle.cli.proofs.Opened.{came_within}
 use Rattle.cli.proofs.Writers.{prints_more}
 use Rattle.cli.proofs.tasks.do_at.Goals as goal

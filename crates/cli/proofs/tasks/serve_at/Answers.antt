@@ -1,7 +1,6 @@
 use Rattle.std.proofs.Common.{ℕ, List, subst, rules}
-use Rattle.std.specs.Io.KnownBytes.{Appends}
+use Rattle.cli.proofs.Common.{Appends, AnswersFrom}
 use Rattle.cli.proofs.Writers.{all_served}
-use Rattle.web.specs.Serving.{AnswersFrom}
 use Rattle.cli.proofs.tasks.serve_at.Goals as goal
 
 pub returns-in-Ok-serve_on-clause-printed : goal.returns-in-Ok-serve_on-clause-printed

@@ -1,9 +1,7 @@
 use Rattle.std.proofs.Common.{ap, rules, refl, ◌∙◌}
 use Rattle.cli.proofs.Writers.{err_printed, ok_printed, served_printed, prints_more}
-use Rattle.web.specs.Serving.{AnswersFrom}
-use Rattle.cli.specs.Outcomes.{IsServed, IsUnbound, prints_err}
+use Rattle.cli.proofs.Common.{AnswersFrom, IsServed, IsUnbound, prints_err, Failure}
 use Rattle.cli.proofs.tasks.serve_bound.Goals as goal
-use Rattle.cli.specs.declared.status.Status.TheVariants.{Failure}
 
 pub returns-in-Ok-clause-printed : goal.returns-in-Ok-clause-printed
 returns-in-Ok-clause-printed g c =

@@ -1,6 +1,6 @@
 use Rattle.std.proofs.Common.{◌≡◌, ◌≤◌, ◌+◌, ◌*◌, ◌++◌, drop}
 use Rattle.arrayvec.specs.ArrayVec.{array_vec_len}
-use Rattle.cli.specs.Outcomes.{counts_text}
+use Rattle.cli.proofs.Common.{counts_text}
 use Rattle.cli.proofs.texts.push_counts.Given as goal
 
 abbrev pub invariant-loop-count : goal.invariant-loop-count

@@ -1,5 +1,5 @@
 use Rattle.std.proofs.Common.{sym, ◌∙◌}
-use Rattle.cli.specs.Outcomes.{named_line}
+use Rattle.cli.proofs.Common.{named_line}
 use Rattle.cli.proofs.Writers.{named_alone}
 use Rattle.cli.proofs.texts.refusal_line.Goals as goal
 

@@ -1,5 +1,5 @@
 use Rattle.std.proofs.Common.{◌≡◌, ◌++◌, map, drop}
-use Rattle.closing.specs.Changes.{closing_changes, placement_added}
+use Rattle.closing.proofs.Common.{closing_changes, placement_added}
 use Rattle.closing.proofs.keeping.close_changes.Given as goal
 
 abbrev pub invariant-loop-placement : goal.invariant-loop-placement

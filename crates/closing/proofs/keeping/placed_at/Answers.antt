@@ -1,4 +1,4 @@
-use Rattle.std.proofs.lemmas.Grind.{common_steps}
+use Rattle.closing.proofs.Common.{common_steps}
 use Rattle.std.proofs.Common.{arith}
 use Rattle.closing.proofs.keeping.placed_at.Goals as goal
 

@@ -1,6 +1,5 @@
 use Rattle.std.proofs.Common.{sym, ap, ◌∙◌, rules}
-use Rattle.rolls.specs.Roll.{put}
-use Rattle.rolls.specs.State.{placement_key}
+use Rattle.closing.proofs.Common.{put, placement_key}
 use Rattle.closing.proofs.ManyPuts.{put_all_more}
 use Rattle.closing.proofs.keeping.placements_after.Goals as goal
 

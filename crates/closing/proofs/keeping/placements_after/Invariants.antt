@@ -1,6 +1,5 @@
 use Rattle.std.proofs.Common.{◌≡◌}
-use Rattle.rolls.specs.Roll.{put_all}
-use Rattle.rolls.specs.State.{placement_key}
+use Rattle.closing.proofs.Common.{put_all, placement_key}
 use Rattle.closing.proofs.keeping.placements_after.Given as goal
 
 abbrev pub invariant-loop-placement : goal.invariant-loop-placement

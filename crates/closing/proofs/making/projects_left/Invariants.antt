@@ -1,8 +1,5 @@
 use Rattle.std.proofs.Common.{◌≡◌, ℕ, ◌++◌, List, Option, map, drop}
-use Rattle.rolls.specs.declared.entries.Supervisor.{Supervisor}
-use Rattle.rolls.specs.declared.rounds.Placement.{Placement}
-use Rattle.rolls.specs.Counted.{AreCounted}
-use Rattle.closing.specs.Inside.Handed.{project_left}
+use Rattle.closing.proofs.Common.{Supervisor, Placement, AreCounted, project_left}
 use Rattle.closing.proofs.making.projects_left.Given as goal
 
 abbrev pub invariant-loop-position : goal.invariant-loop-position

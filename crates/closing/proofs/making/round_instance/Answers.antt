@@ -1,11 +1,5 @@
 use Rattle.std.proofs.Common.{List, map, length, arith, true≢false, sym, ap, ◌∙◌, subst}
-use Rattle.spa.specs.Instance.{Instance}
-use Rattle.spa.specs.Made.{IsFirstInstanceFault}
-use Rattle.rolls.specs.declared.entries.Project.{Project}
-use Rattle.rolls.specs.declared.rounds.Placement.{Placement}
-use Rattle.rolls.specs.Counted.{count_in, count_with}
-use Rattle.closing.specs.Inside.Handed.{supervisor_left, project_left}
-use Rattle.rolls.proofs.NoMoreThanFound.{few_placed}
+use Rattle.closing.proofs.Common.{Instance, IsFirstInstanceFault, Project, Placement, count_in, count_with, supervisor_left, project_left, few_placed}
 use Rattle.closing.proofs.RoundInstance.{instance_accepted, handed_rolls, parts_rolls}
 use Rattle.closing.proofs.making.round_instance.Goals as goal
 use Rattle.closing.proofs.making.round_instance.Goals.{in-Memory, in_default}

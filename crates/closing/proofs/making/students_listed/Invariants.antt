@@ -1,5 +1,5 @@
 use Rattle.std.proofs.Common.{◌≡◌, ◌++◌, map, drop}
-use Rattle.closing.specs.Inside.Handed.{student_listed}
+use Rattle.closing.proofs.Common.{student_listed}
 use Rattle.closing.proofs.making.students_listed.Given as goal
 
 abbrev pub invariant-loop-listed : goal.invariant-loop-listed

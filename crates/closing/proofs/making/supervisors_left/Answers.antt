@@ -1,6 +1,5 @@
 use Rattle.std.proofs.Common.{length, refl, ap, ◌∙◌, ◌-◌}
-use Rattle.std.proofs.lemmas.Option.{slice_get_read}
-use Rattle.closing.specs.Inside.Handed.{supervisor_left}
+use Rattle.closing.proofs.Common.{slice_get_read, supervisor_left}
 use Rattle.closing.proofs.RoundInstance.{handed_step}
 use Rattle.closing.proofs.making.supervisors_left.Goals as goal
 

@@ -1,8 +1,5 @@
 use Rattle.std.proofs.Common.{◌≡◌, ℕ, ◌++◌, List, Option, map, drop}
-use Rattle.rolls.specs.declared.entries.Project.{Project}
-use Rattle.rolls.specs.declared.rounds.Placement.{Placement}
-use Rattle.rolls.specs.Counted.{AreCounted}
-use Rattle.closing.specs.Inside.Handed.{supervisor_left}
+use Rattle.closing.proofs.Common.{Project, Placement, AreCounted, supervisor_left}
 use Rattle.closing.proofs.making.supervisors_left.Given as goal
 
 abbrev pub invariant-loop-position : goal.invariant-loop-position

@@ -1,8 +1,5 @@
 use Rattle.std.proofs.Common.{◌∙◌, ap, arith}
-use Rattle.clap.specs.Words.{App, app_of, with_subcommand}
-use Rattle.commands.specs.Program.{program_name, with_line}
-use Rattle.commands.specs.Table.{lines}
-use Rattle.commands.specs.Inside.Table.{told_by}
+use Rattle.commands.proofs.Common.{App, app_of, with_subcommand, program_name, with_line, lines, told_by}
 use Rattle.commands.proofs.Loops.{folded_all, folded_more}
 use Rattle.commands.proofs.program.program.Goals as goal
 

@@ -1,7 +1,5 @@
 use Rattle.std.proofs.Common.{◌≡◌, fold, take}
-use Rattle.clap.specs.Words.{app_of}
-use Rattle.commands.specs.Program.{program_name, with_line}
-use Rattle.commands.specs.Inside.Table.{told_by}
+use Rattle.commands.proofs.Common.{app_of, program_name, with_line, told_by}
 use Rattle.commands.proofs.program.program.Given as goal
 
 abbrev pub invariant-loop-row : goal.invariant-loop-row

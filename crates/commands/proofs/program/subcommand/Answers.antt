@@ -1,7 +1,5 @@
 use Rattle.std.proofs.Common.{◌∙◌, ◌||◌, Bool, ap, ap₂, arith, refl}
-use Rattle.clap.specs.Words.{app_of, new_app, with_rule}
-use Rattle.commands.specs.Program.{with_argument}
-use Rattle.commands.specs.Inside.Table.{argument_by}
+use Rattle.commands.proofs.Common.{app_of, new_app, with_rule, with_argument, argument_by}
 use Rattle.commands.proofs.Loops.{folded_all, folded_more}
 use Rattle.commands.proofs.program.subcommand.Goals as goal
 

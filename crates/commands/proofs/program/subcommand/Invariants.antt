@@ -1,8 +1,6 @@
 use Rattle.std.proofs.Common.{◌≡◌, fold, take, false}
-use Rattle.clap.specs.Words.{app_of, new_app}
+use Rattle.commands.proofs.Common.{app_of, new_app, with_argument, argument_by}
 use Rattle.clap.specs.declared.builder.command.Command.TheViews.{out-Command}
-use Rattle.commands.specs.Program.{with_argument}
-use Rattle.commands.specs.Inside.Table.{argument_by}
 use Rattle.commands.proofs.program.subcommand.Given as goal
 
 abbrev pub invariant-loop-declarations : goal.invariant-loop-declarations

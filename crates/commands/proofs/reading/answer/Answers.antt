@@ -1,10 +1,6 @@
 use Rattle.std.proofs.Common.{◌≡◌, ◌∙◌, List, [], Err, Option, ap, map, string_bytes, subst, sym, true}
-use Rattle.std.specs.Prelude.{IsSomeAnd}
-use Rattle.clap.specs.Words.{App, HasMatchesOf, Row, Text, app_of, fault_of, is_simple_and_free, kind_of, subcommand_of, subcommand_rows_of}
+use Rattle.commands.proofs.Common.{IsSomeAnd, App, HasMatchesOf, Row, Text, app_of, fault_of, is_simple_and_free, kind_of, subcommand_of, subcommand_rows_of, program, AreGiven, IsLineOf, ReadsLine, Kinds}
 use Rattle.clap.specs.declared.parser.matches.ArgMatches.{ArgMatches}
-use Rattle.commands.specs.Program.{program}
-use Rattle.commands.specs.Reading.{AreGiven, IsLineOf, ReadsLine}
-use Rattle.commands.specs.declared.program.Kinds.{Kinds}
 use Rattle.commands.proofs.Faults.{is_fault, is_memory}
 use Rattle.commands.proofs.Simple.{both_left, program_is_simple}
 use Rattle.commands.proofs.Values.{values_given}

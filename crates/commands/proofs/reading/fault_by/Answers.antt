@@ -1,6 +1,5 @@
 use Rattle.std.proofs.Common.{subst}
-use Rattle.clap.specs.declared.error.kind.ErrorKind.{ErrorKind}
-use Rattle.commands.specs.Inside.Reading.{IsReportedBy}
+use Rattle.commands.proofs.Common.{ErrorKind, IsReportedBy}
 use Rattle.commands.proofs.Faults.{told_by}
 use Rattle.commands.proofs.reading.fault_by.Goals as goal
 

@@ -1,6 +1,5 @@
 use Rattle.std.proofs.Common.{◌∙◌}
-use Rattle.clap.specs.Words.{found_of}
-use Rattle.clap.proofs.WalkLemmas.{first_value-rows}
+use Rattle.commands.proofs.Common.{found_of, first_value-rows}
 use Rattle.commands.proofs.reading.given_word.Goals as goal
 
 pub returns : goal.returns

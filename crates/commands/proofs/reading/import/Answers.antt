@@ -1,6 +1,5 @@
 use Rattle.std.proofs.Common.{◌∙◌, ap, sym, Some}
-use Rattle.rolls.specs.Kinds.{word_of}
-use Rattle.commands.specs.Kinds.{import_kinds}
+use Rattle.commands.proofs.Common.{word_of, import_kinds}
 use Rattle.commands.proofs.Found.{found_word}
 use Rattle.commands.proofs.reading.import.Goals as goal
 

@@ -1,6 +1,5 @@
 use Rattle.std.proofs.Common.{◌≡◌, ◌∙◌, List, Some, ap, option_map, sym}
-use Rattle.clap.specs.Words.{Row, Text, found_of, rows_of, subcommand_rows_of}
-use Rattle.commands.specs.Reading.{AreGiven}
+use Rattle.commands.proofs.Common.{Row, Text, found_of, rows_of, subcommand_rows_of, AreGiven}
 use Rattle.commands.proofs.Subcommands.{map_twice, used_has}
 use Rattle.commands.proofs.reading.line_in.Goals as goal
 

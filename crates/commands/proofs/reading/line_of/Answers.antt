@@ -1,10 +1,5 @@
 use Rattle.std.proofs.Common.{◌≡◌, ◌≢◌, Bool, List, [], ◌∷◌, Some, cond, false, find, refl, sym, true}
-use Rattle.std.specs.Prelude.{IsSomeAnd}
-use Rattle.std.specs.Str.{bytes_eq}
-use Rattle.std.proofs.lemmas.Slice.Eq.{bytes_eq-Decides}
-use Rattle.clap.specs.Words.{Text}
-use Rattle.commands.specs.Reading.{Each}
-use Rattle.commands.specs.Table.{DeclaredLine, lines}
+use Rattle.commands.proofs.Common.{IsSomeAnd, bytes_eq, bytes_eq-Decides, Text, Each, DeclaredLine, lines}
 use Rattle.commands.proofs.reading.line_of.Goals as goal
 
 -- no line is found by a name that none has

@@ -1,5 +1,5 @@
 use Rattle.std.proofs.Common.{arith}
-use Rattle.commands.specs.declared.table.Takes.TheVariants.{Number}
+use Rattle.commands.proofs.Common.{Number}
 use Rattle.commands.proofs.Numbers.{is_read}
 use Rattle.commands.proofs.reading.port.Goals as goal
 

@@ -1,5 +1,5 @@
 use Rattle.std.proofs.Common.{◌∙◌, ap, sym, Some}
-use Rattle.commands.specs.Kinds.{report_kinds, report_word}
+use Rattle.commands.proofs.Common.{report_kinds, report_word}
 use Rattle.commands.proofs.Found.{found_word}
 use Rattle.commands.proofs.reading.report.Goals as goal
 

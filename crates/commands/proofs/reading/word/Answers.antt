@@ -1,7 +1,5 @@
 use Rattle.std.proofs.Common.{◌≡◌, ◌∙◌, Bool, Option, None, Some, ap, option_map, refl, subst, sym, true, false}
-use Rattle.std.specs.Prelude.{IsSome, IsSomeAnd}
-use Rattle.clap.specs.Words.{Text}
-use Rattle.commands.specs.Reading.{HasOne, fits}
+use Rattle.commands.proofs.Common.{IsSome, IsSomeAnd, Text, HasOne, fits}
 use Rattle.commands.proofs.reading.word.Goals as goal
 
 is_there : {X Y : Type 0} (f : X → Y) (P : Y → Type 0) (o : Option X) → IsSomeAnd (option_map f o) P → IsSome o

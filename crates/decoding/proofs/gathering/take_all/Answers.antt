@@ -1,6 +1,5 @@
 use Rattle.std.proofs.Common.{◌≡◌, suc, ◌+◌, ◌-◌, ◌∙◌, arith}
-use Rattle.spa.specs.declared.TheConstants.{RANKS}
-use Rattle.decoding.specs.View.{drafted}
+use Rattle.decoding.proofs.Common.{RANKS, drafted}
 use Rattle.decoding.proofs.Faults.{handed_on}
 use Rattle.decoding.proofs.Gathered.{gathered_on, gathered_off}
 use Rattle.decoding.proofs.gathering.take_all.Goals as goal

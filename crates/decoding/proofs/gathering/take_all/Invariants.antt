@@ -1,8 +1,5 @@
 use Rattle.std.proofs.Common.{◌≡◌, ℕ, ◌+◌}
-use Rattle.spa.specs.declared.TheConstants.{RANKS}
-use Rattle.rolls.specs.State.{empty}
-use Rattle.decoding.specs.Inside.Gathering.{stages, staged, gathered}
-use Rattle.decoding.specs.View.{drafted}
+use Rattle.decoding.proofs.Common.{RANKS, empty, stages, staged, gathered, drafted}
 use Rattle.decoding.proofs.gathering.take_all.Given as goal
 
 abbrev pub invariant-loop-stage : goal.invariant-loop-stage

@@ -1,6 +1,5 @@
 use Rattle.std.proofs.Common.{◌≡◌, drop}
-use Rattle.decoding.specs.Inside.Gathering.{at_stage, gathered}
-use Rattle.decoding.specs.View.{drafted}
+use Rattle.decoding.proofs.Common.{at_stage, gathered, drafted}
 use Rattle.decoding.proofs.gathering.take_stage.Given as goal
 
 abbrev pub invariant-loop-row : goal.invariant-loop-row

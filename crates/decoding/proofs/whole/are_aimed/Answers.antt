@@ -1,8 +1,6 @@
 use Rattle.std.proofs.Common.{◌≡◌, ◌≢◌, Bool, true, false, List, [], ◌∷◌, length, refl, sym, arith}
-use Rattle.std.specs.Prelude.{◌==◌, ◌&&◌}
-use Rattle.rolls.specs.declared.rounds.Round.{Round}
+use Rattle.decoding.proofs.Common.{◌==◌, ◌&&◌, Round, are_aimed}
 use Rattle.rolls.specs.declared.rounds.RoundAim.{RoundAim}
-use Rattle.rolls.specs.Fit.{are_aimed}
 use Rattle.decoding.proofs.whole.are_aimed.Goals as goal
 
 and_false : (b c : Bool) → c ≡ false → (b && c) ≡ false

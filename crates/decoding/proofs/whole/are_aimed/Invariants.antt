@@ -1,5 +1,5 @@
 use Rattle.std.proofs.Common.{◌≡◌, drop}
-use Rattle.rolls.specs.Fit.{are_aimed}
+use Rattle.decoding.proofs.Common.{are_aimed}
 use Rattle.decoding.proofs.whole.are_aimed.Given as goal
 
 abbrev pub invariant-loop-i : goal.invariant-loop-i

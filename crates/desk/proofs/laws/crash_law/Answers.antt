@@ -1,4 +1,4 @@
-use Rattle.desk.specs.Keeping.{Begins}
+use Rattle.desk.proofs.Common.{Begins}
 use Rattle.desk.proofs.AfterCrash.{rest_kept, call_whole, ask_whole}
 use Rattle.desk.proofs.laws.crash_law.Goals as goal
 

@@ -1,9 +1,6 @@
 use Rattle.std.proofs.Common.{◌≡◌, None, IfErr, sym, subst}
-use Rattle.rolls.specs.declared.request.Request.{Request}
+use Rattle.desk.proofs.Common.{Request, refusal_of, MayRefuse, layers}
 use Rattle.rolls.specs.declared.request.Request.TheVariants as request
-use Rattle.rolls.specs.Refusing.{refusal_of}
-use Rattle.rolls.specs.Run.{MayRefuse}
-use Rattle.outside.specs.Layers.{layers}
 use Rattle.desk.proofs.Refusals.{may_refuse}
 use Rattle.desk.proofs.NoStorage.{import_named, unstored}
 use Rattle.desk.proofs.persistent.make_change.Goals as goal

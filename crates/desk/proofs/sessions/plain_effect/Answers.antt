@@ -1,6 +1,5 @@
 use Rattle.std.proofs.Common.{◌≡◌, ℕ, List, IfOk, sym, subst, rules}
-use Rattle.rolls.specs.declared.request.Plain.{Plain}
-use Rattle.desk.specs.Sessions.{list_effect, plain_effect}
+use Rattle.desk.proofs.Common.{Plain, list_effect, plain_effect}
 use Rattle.desk.proofs.sessions.plain_effect.Goals as goal
 
 pub returns-in-PutList : goal.returns-in-PutList

@@ -1,6 +1,5 @@
 use Rattle.std.proofs.Common.{◌≡◌, ℕ, ◌<◌, List, [], ◌∷◌, length, map, get_or, sym, ap, ◌∙◌, arith, rules}
-use denote.Ref.{Bor}
-use Rattle.std.proofs.lemmas.List.{length-map}
+use Rattle.intake.proofs.Common.{Bor, length-map}
 use Rattle.intake.proofs.Order.{key_at}
 use Rattle.intake.proofs.Lists.{differs, agrees, first_field}
 use Rattle.intake.proofs.draft.add_price.Goals as goal

@@ -1,5 +1,5 @@
 use Rattle.std.proofs.Common.{◌≡◌, ℕ, ◌+◌, ◌-◌, ◌≤◌, List, [], ◌∷◌, ◌++◌, length, replicate, Option, None, ap, sym, ◌∙◌, append_assoc, append-nil, arith}
-use Rattle.std.proofs.lemmas.List.{replicate_more}
+use Rattle.intake.proofs.Common.{replicate_more}
 use Rattle.intake.proofs.draft.fill.Goals as goal
 
 pub loop-init : goal.loop-init

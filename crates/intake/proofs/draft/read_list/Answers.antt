@@ -1,6 +1,5 @@
 use Rattle.std.proofs.Common.{◌≡◌, ◌≢◌, ◌<◌, ℕ, List, [], ◌∷◌, ◌++◌, length, map, get_or, slice_get, Some, sym, ap, ◌∙◌, arith}
-use Rattle.std.proofs.lemmas.Bool.{eqb-false, eqb-true}
-use Rattle.std.proofs.lemmas.List.{length-map}
+use Rattle.intake.proofs.Common.{eqb-false, eqb-true, length-map}
 use Rattle.intake.proofs.Lists.{blank, field_at, unknown_code, repeated_code, sound_more, read_more, at_position, stand_more, fresh_code}
 use Rattle.intake.proofs.Order.{get_found, key_at}
 use Rattle.intake.proofs.Rolls.{within_get}

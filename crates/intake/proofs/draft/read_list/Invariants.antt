@@ -1,5 +1,5 @@
 use Rattle.std.proofs.Common.{◌≡◌, map, take}
-use Rattle.spa.specs.Made.{IsSoundUpTo}
+use Rattle.intake.proofs.Common.{IsSoundUpTo}
 use Rattle.intake.proofs.Lists.{StandAt}
 use Rattle.intake.proofs.draft.read_list.Given as goal
 

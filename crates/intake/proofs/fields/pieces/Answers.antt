@@ -1,6 +1,5 @@
 use Rattle.std.proofs.Common.{◌≡◌, ◌==◌, ℕ, ◌-◌, true, false, List, [], ◌∷◌, ◌++◌, map, take, drop, length, get_or, rules, tests, ap, ◌∙◌, subst, arith}
-use denote.Ref.{Bor}
-use Rattle.std.proofs.lemmas.List.{map_push, take_rest}
+use Rattle.intake.proofs.Common.{Bor, map_push, take_rest}
 use Rattle.intake.proofs.Pieces.{AreCut, cut_on, cut_here, cut_all}
 use Rattle.intake.proofs.fields.pieces.Goals.{then-text-at+in_ok-push, else-text-at}
 use Rattle.intake.proofs.fields.pieces.Goals as goal

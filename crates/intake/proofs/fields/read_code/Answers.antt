@@ -1,7 +1,5 @@
 use Rattle.std.proofs.Common.{inl, inr}
-use Rattle.std.proofs.lemmas.Bool.{cases_Bool}
-use Rattle.spa.specs.Text.{is_code}
-use Rattle.spa.proofs.Texts.{code_utf8}
+use Rattle.intake.proofs.Common.{cases_Bool, is_code, code_utf8}
 use Rattle.intake.proofs.fields.read_code.Goals as goal
 
 pub returns-in_default : goal.returns-in_default

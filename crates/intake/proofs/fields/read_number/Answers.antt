@@ -1,7 +1,5 @@
 use Rattle.std.proofs.Common.{◌≡◌, ℕ, ℤ, Ok, ◌∙◌, sym, ap, subst, List, to_z, of_z, w64}
-use Rattle.std.specs.Fmt.{signed_decimal}
-use Rattle.verdict.specs.Rows.{InRange}
-use Rattle.std.specs.Str.{IsUtf8}
+use Rattle.intake.proofs.Common.{signed_decimal, InRange, IsUtf8}
 use Rattle.intake.proofs.Numbers.{number_utf8, number_parsed, number_kept}
 use Rattle.intake.proofs.fields.read_number.Goals as goal
 

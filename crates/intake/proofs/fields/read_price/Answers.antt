@@ -1,5 +1,5 @@
 use Rattle.std.proofs.Common.{ℕ, get_or, pos, arith, List, []}
-use denote.Ref.{Bor}
+use Rattle.intake.proofs.Common.{Bor}
 use Rattle.intake.proofs.Numbers.{field_is, fields_are, read_more}
 use Rattle.intake.proofs.fields.read_price.Goals as goal
 

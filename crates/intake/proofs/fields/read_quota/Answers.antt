@@ -1,5 +1,5 @@
 use Rattle.std.proofs.Common.{◌≡◌, ℕ, decimal, Ok, ◌∙◌, sym, ap, subst, List, arith}
-use Rattle.std.specs.Str.{IsUtf8}
+use Rattle.intake.proofs.Common.{IsUtf8}
 use Rattle.intake.proofs.Numbers.{quota_utf8, quota_parsed}
 use Rattle.intake.proofs.fields.read_quota.Goals as goal
 

@@ -1,5 +1,5 @@
 use Rattle.std.proofs.Common.{◌≡◌, ◌++◌, ◌∷◌, map, drop, flat_map, string_bytes}
-use Rattle.spa.specs.Codes.{code_at}
+use Rattle.intake.proofs.Common.{code_at}
 use Rattle.intake.proofs.lines.push_codes.Given as goal
 
 abbrev pub invariant-loop-position : goal.invariant-loop-position

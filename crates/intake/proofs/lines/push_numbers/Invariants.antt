@@ -1,5 +1,5 @@
 use Rattle.std.proofs.Common.{◌≡◌, ◌++◌, ◌∷◌, map, drop, flat_map, string_bytes}
-use Rattle.std.specs.Fmt.{signed_decimal}
+use Rattle.intake.proofs.Common.{signed_decimal}
 use Rattle.intake.proofs.lines.push_numbers.Given as goal
 
 abbrev pub invariant-loop-number : goal.invariant-loop-number

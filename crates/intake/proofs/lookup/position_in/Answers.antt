@@ -1,5 +1,5 @@
 use Rattle.std.proofs.Common.{◌≡◌, slice_get, Some, sym, ◌∙◌, below_more}
-use Rattle.std.proofs.lemmas.List.{get_or_read}
+use Rattle.intake.proofs.Common.{get_or_read}
 use Rattle.intake.proofs.Found.{slice_get_at}
 use Rattle.intake.proofs.Order.{get_found}
 use Rattle.intake.proofs.lookup.position_in.Goals as goal

@@ -1,5 +1,5 @@
 use Rattle.std.proofs.Common.{ℕ, ◌+◌, ◌-◌, ◌/◌, ◌<◌, map, length, arith}
-use Rattle.std.specs.declared.cmp.Ordering.TheVariants.{Less, Greater}
+use Rattle.intake.proofs.Common.{Less, Greater}
 use Rattle.intake.proofs.Order.{searched_less, searched_greater, searched_all, key_count, key_compared, key_equal}
 use Rattle.intake.proofs.lookup.position_of.Goals as goal
 

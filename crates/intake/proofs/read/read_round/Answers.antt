@@ -1,11 +1,5 @@
 use Rattle.std.proofs.Common.{◌≡◌, ℕ, ◌-◌, ◌<◌, Bool, List, length, take, sym, ap, subst, ◌∙◌, arith}
-use denote.Ref.{Bor}
-use Rattle.std.proofs.lemmas.List.{length-map}
-use Rattle.std.proofs.lemmas.Result.{err_from_is_err_and}
-use Rattle.intake.specs.Lines.{round_lines}
-use Rattle.intake.specs.Reading.{pieces}
-use Rattle.intake.specs.Inside.PartialRound.{draft_of}
-use Rattle.intake.specs.Inside.Entries.{AddsLine}
+use Rattle.intake.proofs.Common.{Bor, length-map, err_from_is_err_and, round_lines, pieces, draft_of, AddsLine}
 use Rattle.intake.proofs.Bad.{some_piece, piece_at, line_more, bad_line, bad_end, good_text}
 use Rattle.intake.proofs.read.read_round.Goals as goal
 

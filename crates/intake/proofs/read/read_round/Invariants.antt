@@ -1,7 +1,5 @@
 use Rattle.std.proofs.Common.{◌≡◌, take}
-use Rattle.intake.specs.Lines.{round_lines}
-use Rattle.intake.specs.Reading.{pieces}
-use Rattle.intake.specs.Inside.PartialRound.{draft_of, IsDraft}
+use Rattle.intake.proofs.Common.{round_lines, pieces, draft_of, IsDraft}
 use Rattle.intake.proofs.read.read_round.Given as goal
 
 abbrev pub invariant-loop-n : goal.invariant-loop-n

@@ -1,7 +1,5 @@
 use Rattle.std.proofs.Common.{◌≡◌, ℕ, ◌+◌, ◌-◌, ◌<◌, List, [], ◌∷◌, ◌++◌, length, get_or, Some, None, codes, drop, string_bytes, refl, sym, ap, ◌∙◌, arith}
-use Rattle.std.proofs.lemmas.List.{get_or_read}
-use Rattle.spa.specs.Shape.{IsPlaceOf, list_of}
-use Rattle.intake.specs.Lines.{line}
+use Rattle.intake.proofs.Common.{get_or_read, IsPlaceOf, list_of, line}
 use Rattle.intake.proofs.Found.{slice_get_at}
 use Rattle.intake.proofs.RestOfText.{is_none, pairs_none, pairs_some, pair_text, next}
 use Rattle.intake.proofs.write.write_pairs.Goals as goal

@@ -1,9 +1,5 @@
 use Rattle.std.proofs.Common.{◌≡◌, ℕ, ◌+◌, ◌<◌, [], ◌∷◌, ◌++◌, length, get_or, map, drop, string_bytes, refl, sym, ap, ◌∙◌, arith}
-use Rattle.std.specs.Fmt.{signed_decimal}
-use Rattle.std.proofs.lemmas.Result.{err_from_is_err_and}
-use Rattle.std.proofs.lemmas.List.{get_or_read, get_or_default}
-use Rattle.spa.specs.declared.TheConstants.{COMPONENTS}
-use Rattle.intake.specs.Lines.{line}
+use Rattle.intake.proofs.Common.{signed_decimal, err_from_is_err_and, get_or_read, get_or_default, COMPONENTS, line}
 use Rattle.intake.proofs.RestOfText.{price_text, next, next_price, last_price, one_more}
 use Rattle.intake.proofs.write.write_prices.Goals as goal
 

@@ -1,5 +1,5 @@
 use Rattle.std.proofs.Common.{◌≡◌, ℕ, ◌<◌, ℤ, List, length, ◌++◌, drop, get_or, string_bytes}
-use Rattle.spa.specs.declared.TheConstants.{COMPONENTS}
+use Rattle.intake.proofs.Common.{COMPONENTS}
 use Rattle.intake.proofs.RestOfText.{price_text}
 use Rattle.intake.proofs.write.write_prices.Given as goal
 

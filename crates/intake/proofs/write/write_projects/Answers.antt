@@ -1,9 +1,5 @@
 use Rattle.std.proofs.Common.{ℕ, ◌+◌, ◌<◌, [], ◌∷◌, ◌++◌, length, get_or, drop, codes, decimal, string_bytes, refl, sym, ap, subst, ◌∙◌, arith}
-use Rattle.std.specs.Prelude.{IsTrue}
-use Rattle.std.proofs.lemmas.Result.{err_from_is_err_and}
-use Rattle.std.proofs.lemmas.List.{get_or_read}
-use Rattle.spa.specs.Text.{is_code}
-use Rattle.intake.specs.Lines.{line}
+use Rattle.intake.proofs.Common.{IsTrue, err_from_is_err_and, get_or_read, is_code, line}
 use Rattle.intake.proofs.RestOfText.{project_text, next, next_project, last_project, one_more}
 use Rattle.intake.proofs.write.write_projects.Goals as goal
 

@@ -1,15 +1,6 @@
 use Rattle.std.proofs.Common.{◌≡◌, ℕ, ◌≤◌, List, length, ◌++◌, map, string_bytes, Option, None, IfSome, ap, ◌∙◌, sym, subst}
-use denote.Ref.{Bor}
-use Rattle.spa.specs.declared.aim.Aim.{Aim}
+use Rattle.intake.proofs.Common.{Bor, Aim, Prices, IsMatched, instance_of, students_named, HasShape, MAX_BYTES, IsRoundParts, round_text, instance_text, written}
 use Rattle.spa.specs.declared.matching.Matching.{Matching}
-use Rattle.verdict.specs.declared.prices.Prices.{Prices}
-use Rattle.spa.specs.Matched.{IsMatched}
-use Rattle.spa.specs.Named.{instance_of, students_named}
-use Rattle.verdict.specs.Verdict.{HasShape}
-use Rattle.intake.specs.declared.TheConstants.{MAX_BYTES}
-use Rattle.intake.specs.Parts.{IsRoundParts}
-use Rattle.intake.specs.Lines.{round_text, instance_text}
-use Rattle.intake.specs.View.{written}
 use Rattle.intake.proofs.Whole.{HasForms, HasRises, HasNumbers, alone_whole, proved_whole}
 use Rattle.intake.proofs.Size.{text_small}
 use Rattle.intake.proofs.Alone.{no_pairs, instance_alone}

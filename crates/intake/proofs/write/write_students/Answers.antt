@@ -1,10 +1,5 @@
 use Rattle.std.proofs.Common.{◌≡◌, ℕ, ◌+◌, ◌<◌, List, [], ◌∷◌, ◌++◌, length, get_or, map, drop, codes, string_bytes, refl, sym, ap, subst, ◌∙◌, arith}
-use Rattle.std.specs.Prelude.{IsTrue}
-use Rattle.std.proofs.lemmas.Result.{err_from_is_err_and}
-use Rattle.std.proofs.lemmas.List.{get_or_read}
-use Rattle.spa.specs.Text.{is_code}
-use Rattle.spa.specs.Codes.{code_at}
-use Rattle.intake.specs.Lines.{line}
+use Rattle.intake.proofs.Common.{IsTrue, err_from_is_err_and, get_or_read, is_code, code_at, line}
 use Rattle.intake.proofs.RestOfText.{student_text, next, next_student, last_student, one_more}
 use Rattle.intake.proofs.write.write_students.Goals as goal
 

@@ -1,6 +1,5 @@
 use Rattle.std.proofs.Common.{◌≡◌, ℕ, ◌<◌, List, ◌++◌, drop, get_or, string_bytes}
-use Rattle.std.specs.Prelude.{IsTrue}
-use Rattle.spa.specs.Text.{is_code}
+use Rattle.intake.proofs.Common.{IsTrue, is_code}
 use Rattle.intake.proofs.RestOfText.{student_text}
 use Rattle.intake.proofs.write.write_students.Given as goal
 

@@ -1,5 +1,5 @@
 use Rattle.std.proofs.Common.{◌≡◌, ℕ, length}
-use Rattle.std.specs.Prelude.{slice_index_or}
+use Rattle.network.proofs.Common.{slice_index_or}
 use Rattle.network.proofs.numbers.copies.Given as goal
 
 abbrev pub invariant-loop-i : goal.invariant-loop-i

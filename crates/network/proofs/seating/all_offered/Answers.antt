@@ -1,9 +1,5 @@
 use Rattle.std.proofs.Common.{arith, ◌≡◌, ◌+◌, ◌<◌, ◌++◌, ◌∷◌, [], inl, inr, length, slice_get, sym, ◌∙◌, ap}
-use Rattle.std.proofs.lemmas.Bool.{cases_eq}
-use Rattle.std.proofs.lemmas.List.{length-append}
-use Rattle.network.specs.Inside.Labels.{count_of}
-use Rattle.network.specs.Inside.Push.{owner_at}
-use Rattle.network.specs.Inside.Seating.{numbers_of, numbers_at}
+use Rattle.network.proofs.Common.{cases_eq, length-append, count_of, owner_at, numbers_of, numbers_at}
 use Rattle.network.proofs.Lists.{slice_get-last, slice_get-before}
 use Rattle.network.proofs.seating.all_offered.Goals as goal
 

@@ -1,7 +1,5 @@
 use Rattle.std.proofs.Common.{◌≡◌, ℕ, ◌<◌, length, slice_get}
-use Rattle.network.specs.Inside.Labels.{count_of}
-use Rattle.network.specs.Inside.Push.{owner_at}
-use Rattle.network.specs.Inside.Seating.{numbers_at}
+use Rattle.network.proofs.Common.{count_of, owner_at, numbers_at}
 use Rattle.network.proofs.seating.all_offered.Given as goal
 
 abbrev pub invariant-loop-i : goal.invariant-loop-i

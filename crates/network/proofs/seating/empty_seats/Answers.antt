@@ -1,9 +1,5 @@
 use Rattle.std.proofs.Common.{rules, arith, ◌≡◌, ◌+◌, ◌<◌, ◌++◌, ◌∷◌, [], inl, inr, length, slice_get, sym, ◌∙◌, ap}
-use Rattle.std.proofs.lemmas.Bool.{cases_eq}
-use Rattle.std.proofs.lemmas.List.{length-append}
-use Rattle.std.proofs.lemmas.Option.{slice_get-get_or, slice_get_within, some_pair_parts}
-use Rattle.std.specs.Vec.{vec_capacity}
-use Rattle.network.specs.Inside.Seating.{room_of, room_at}
+use Rattle.network.proofs.Common.{cases_eq, length-append, slice_get-get_or, slice_get_within, some_pair_parts, vec_capacity, room_of, room_at}
 use Rattle.network.proofs.Lists.{slice_get-last, slice_get-before, none_more}
 use Rattle.network.proofs.seating.empty_seats.Goals as goal
 

@@ -1,6 +1,5 @@
 use Rattle.std.proofs.Common.{◌≡◌, ℕ, ◌<◌, ◌≤◌, length, Some, slice_get}
-use Rattle.network.specs.Inside.Labels.{count_of}
-use Rattle.network.specs.Inside.Seating.{numbers_at, room_at}
+use Rattle.network.proofs.Common.{count_of, numbers_at, room_at}
 use Rattle.network.proofs.seating.empty_seats.Given as goal
 
 abbrev pub invariant-loop-i : goal.invariant-loop-i

@@ -1,8 +1,5 @@
 use Rattle.std.proofs.Common.{rules, arith, ◌≡◌, ℕ, ◌+◌, ◌*◌, inl, inr, get_or, length, Some, slice_get, sym, ◌∙◌, ap, eq-eqb, ne_eqb, eqb}
-use Rattle.std.proofs.lemmas.Bool.{cases_eq, cases_lt}
-use Rattle.std.proofs.lemmas.Option.{slice_get-get_or, slice_get_past}
-use Rattle.network.specs.Inside.Labels.{count_of}
-use Rattle.network.specs.Inside.Push.{one_if, owner_at}
+use Rattle.network.proofs.Common.{cases_eq, cases_lt, slice_get-get_or, slice_get_past, count_of, one_if, owner_at}
 use Rattle.network.proofs.CountedLists.{count_more}
 use Rattle.network.proofs.seating.projects_of.Goals as goal
 use Rattle.network.proofs.seating.projects_of.Goals.{then-projects-i+in_ok-push, else-projects-i}

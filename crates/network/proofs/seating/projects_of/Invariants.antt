@@ -1,6 +1,5 @@
 use Rattle.std.proofs.Common.{◌≡◌, ℕ, ◌<◌, ◌≤◌, slice_get}
-use Rattle.network.specs.Inside.Labels.{count_of}
-use Rattle.network.specs.Inside.Push.{owner_at}
+use Rattle.network.proofs.Common.{count_of, owner_at}
 use Rattle.network.proofs.seating.projects_of.Given as goal
 
 abbrev pub invariant-loop-i : goal.invariant-loop-i

@@ -1,6 +1,5 @@
 use Rattle.std.proofs.Common.{arith, length, refl, ap}
-use Rattle.std.proofs.lemmas.Option.{slice_get_read}
-use Rattle.network.specs.Inside.Seating.{numbers_of, room_of}
+use Rattle.network.proofs.Common.{slice_get_read, numbers_of, room_of}
 use Rattle.network.proofs.Lists.{counts_in, same_room}
 use Rattle.network.proofs.seating.seat.Goals as goal
 

@@ -1,7 +1,5 @@
 use Rattle.std.proofs.Common.{arith, ◌≡◌, length, Some, slice_get, refl, ap}
-use Rattle.std.proofs.lemmas.Option.{slice_get_read}
-use Rattle.network.specs.Inside.Labels.{count_of}
-use Rattle.network.specs.Inside.Seating.{numbers_of}
+use Rattle.network.proofs.Common.{slice_get_read, count_of, numbers_of}
 use Rattle.network.proofs.Lists.{all_shorter, counts_out, same_room}
 use Rattle.network.proofs.seating.unseat.Goals as goal
 

@@ -1,6 +1,5 @@
 use Rattle.std.proofs.Common.{arith, ◌≡◌, ◌+◌, ◌-◌, ◌<◌, length, true, false, sym, ◌∙◌}
-use Rattle.std.proofs.lemmas.Bool.{ltb-true, lt-ltb}
-use Rattle.network.specs.Inside.Ways.{at_sink, by_supervisor, by_project}
+use Rattle.network.proofs.Common.{ltb-true, lt-ltb, at_sink, by_supervisor, by_project}
 use Rattle.network.proofs.PrunedArcs.{project_free_path, supervisor_free_path}
 use Rattle.network.proofs.ways.has_free_path.Goals as goal
 

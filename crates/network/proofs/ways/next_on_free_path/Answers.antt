@@ -1,6 +1,5 @@
 use Rattle.std.proofs.Common.{arith, ◌+◌, sym, ◌∙◌, ap}
-use Rattle.std.proofs.lemmas.Option.{slice_get_within, some_pair_parts}
-use Rattle.network.specs.Inside.Arcs.{project_count}
+use Rattle.network.proofs.Common.{slice_get_within, some_pair_parts, project_count}
 use Rattle.network.proofs.ways.next_on_free_path.Goals as goal
 
 pub project-supervisor-requires : goal.project-supervisor-requires

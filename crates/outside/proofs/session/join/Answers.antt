@@ -1,6 +1,5 @@
 use Rattle.std.proofs.Common.{◌≡◌, ℕ, List, length, sym, ap, subst, ◌∙◌, arith}
-use Rattle.solver.specs.SessionState.{with_list, IsAdmitted}
-use Rattle.rolls.specs.State.{State, last_round}
+use Rattle.outside.proofs.Common.{with_list, IsAdmitted, State, last_round}
 use Rattle.outside.proofs.OneMoreStudent.{MayAdmit, joins_admitted, joins_listed, joins_mirrors}
 use Rattle.outside.proofs.session.join.Goals as goal
 

@@ -1,8 +1,5 @@
 use Rattle.std.proofs.Common.{◌≡◌, ℕ, ◌<◌, List, length, map, Some, IfOk, All, Contains, sym, ap, subst, ◌∙◌}
-use Rattle.std.specs.Prelude.{option_copied}
-use Rattle.spa.specs.Codes.{code_at}
-use Rattle.rolls.specs.declared.entries.Project.{Project}
-use Rattle.rolls.specs.State.{State, last_round, list_of}
+use Rattle.outside.proofs.Common.{option_copied, code_at, Project, State, last_round, list_of}
 use Rattle.outside.proofs.Positions.{listed_known, ranked}
 use Rattle.outside.proofs.session.list_of.Goals as goal
 

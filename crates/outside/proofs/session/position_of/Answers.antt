@@ -1,7 +1,5 @@
 use Rattle.std.proofs.Common.{◌≢◌, ℕ, ◌<◌, List, [], ◌∷◌, Contains, length, map, get_or, sym, ◌∙◌, arith}
-use Rattle.std.proofs.lemmas.List.{get_or-map, length-map}
-use Rattle.std.proofs.lemmas.Slice.Eq.{bytes_eq-Decides}
-use Rattle.rolls.specs.declared.entries.Project.{Project}
+use Rattle.outside.proofs.Common.{get_or-map, length-map, bytes_eq-Decides, Project}
 use Rattle.outside.proofs.session.position_of.Goals as goal
 
 pub returns-then-eq-clause-named : goal.returns-then-eq-clause-named

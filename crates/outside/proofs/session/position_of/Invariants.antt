@@ -1,5 +1,5 @@
 use Rattle.std.proofs.Common.{◌≢◌, ℕ, ◌<◌, get_or}
-use Rattle.rolls.specs.declared.entries.Project.{Project}
+use Rattle.outside.proofs.Common.{Project}
 use Rattle.outside.proofs.session.position_of.Given as goal
 
 -- no project before this one has the code

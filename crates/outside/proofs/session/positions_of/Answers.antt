@@ -1,5 +1,5 @@
 use Rattle.std.proofs.Common.{ℕ, List, Contains, map, sym, subst}
-use Rattle.rolls.specs.declared.entries.Project.{Project}
+use Rattle.outside.proofs.Common.{Project}
 use Rattle.outside.proofs.session.positions_of.Goals as goal
 
 pub position_of-requires : goal.position_of-requires

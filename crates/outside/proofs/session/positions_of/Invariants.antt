@@ -1,5 +1,5 @@
 use Rattle.std.proofs.Common.{◌≡◌, ◌<◌, All, length, map, take}
-use Rattle.spa.specs.Codes.{code_at}
+use Rattle.outside.proofs.Common.{code_at}
 use Rattle.outside.proofs.session.positions_of.Given as goal
 
 -- the first choices have their positions

@@ -1,14 +1,5 @@
 use Rattle.std.proofs.Common.{◌≡◌, ℕ, ◌+◌, List, length, map, refl, sym, ap, subst, ◌∙◌, arith}
-use Rattle.std.proofs.lemmas.List.{length-map}
-use Rattle.spa.specs.declared.TheConstants.{RANKS}
-use Rattle.spa.specs.declared.aim.Aim.{Aim}
-use Rattle.spa.specs.Shape.{Shape}
-use Rattle.spa.specs.Named.{instance_of}
-use Rattle.spa.specs.Matching.{Pair, IsBest, profile}
-use Rattle.spa.specs.Coded.{CodePair, codes_of, profile_by_codes, IsBestByCodes}
-use Rattle.rolls.specs.State.{aim_of, last_round}
-use Rattle.rolls.specs.Instances.{round_instance}
-use Rattle.rolls.specs.Closing.{profile_of}
+use Rattle.outside.proofs.Common.{length-map, RANKS, Aim, Shape, instance_of, Pair, IsBest, profile, CodePair, codes_of, profile_by_codes, IsBestByCodes, aim_of, last_round, round_instance, profile_of}
 use Rattle.rolls.specs.declared.request.Reply.TheVariants as reply
 use Rattle.outside.proofs.SameRound.{choices_same, best_same, profile_by}
 use Rattle.rolls.proofs.Numbered.{listed}

@@ -1,7 +1,5 @@
 use Rattle.std.proofs.Common.{List, ap, ◌∙◌}
-use Rattle.rolls.specs.declared.rounds.Round.{Round}
-use Rattle.rolls.specs.State.{round_key}
-use Rattle.rolls.specs.Roll.{rises}
+use Rattle.reports.proofs.Common.{Round, round_key, rises}
 use Rattle.rolls.proofs.LastRound.{rounds_rise}
 use Rattle.reports.proofs.find.round_of.Goals as goal
 

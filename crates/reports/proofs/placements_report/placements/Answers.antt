@@ -1,6 +1,6 @@
 use Rattle.std.proofs.Common.{◌==◌}
 use Rattle.reports.proofs.Lines.{next, appended_chosen}
-use Rattle.reports.specs.Texts.{placement_line}
+use Rattle.reports.proofs.Common.{placement_line}
 use Rattle.reports.proofs.placements_report.placements.Goals as goal
 
 pub loop-placement-preserved : goal.loop-placement-preserved

@@ -1,5 +1,5 @@
 use Rattle.std.proofs.Common.{◌≡◌, ◌++◌, ◌==◌, drop, flat_map, filter, string_bytes}
-use Rattle.reports.specs.Texts.{placement_line}
+use Rattle.reports.proofs.Common.{placement_line}
 use Rattle.reports.proofs.placements_report.placements.Given as goal
 
 abbrev pub invariant-loop-placement : goal.invariant-loop-placement

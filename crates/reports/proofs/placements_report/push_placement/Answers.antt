@@ -1,9 +1,7 @@
 use Rattle.std.proofs.Common.{◌++◌, [], ◌∷◌, ◌==◌, string_bytes, arith, ap, ◌∙◌}
-use Rattle.std.specs.Fmt.{styled_text, styled_decimal}
-use Rattle.std.proofs.lemmas.Bool.{eq-eqb}
+use Rattle.reports.proofs.Common.{styled_text, styled_decimal, eq-eqb, left, right, placement_line}
 use Rattle.reports.proofs.Widths.{left_code, right_number}
 use Rattle.reports.proofs.Lines.{joined, chosen}
-use Rattle.reports.specs.Texts.{left, right, placement_line}
 use Rattle.reports.proofs.placements_report.push_placement.Goals as goal
 
 pub returns-in_ok-writeln : goal.returns-in_ok-writeln

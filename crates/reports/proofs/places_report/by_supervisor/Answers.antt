@@ -1,14 +1,9 @@
 use Rattle.std.proofs.Common.{◌≡◌, ℕ, List, length, Some, slice_get, refl, sym, ap, subst, ◌∙◌, arith}
-use Rattle.std.proofs.lemmas.Option.{slice_get_read}
+use Rattle.reports.proofs.Common.{slice_get_read, Supervisor, Project, Placement, State, AreLoads, rows_of}
 use Rattle.spa.specs.Counted.{Counted}
-use Rattle.rolls.specs.declared.entries.Supervisor.{Supervisor}
-use Rattle.rolls.specs.declared.entries.Project.{Project}
-use Rattle.rolls.specs.declared.rounds.Placement.{Placement}
-use Rattle.rolls.specs.State.{State}
 use Rattle.rolls.specs.Counted.{AreCounted}
 use Rattle.office.proofs.Few.{placements_few}
 use Rattle.reports.proofs.Lines.{next, appended}
-use Rattle.reports.specs.Inside.Texts.{AreLoads, rows_of}
 use Rattle.reports.proofs.places_report.by_supervisor.Goals as goal
 
 pub counted-counts-requires-clause-few : goal.counted-counts-requires-clause-few

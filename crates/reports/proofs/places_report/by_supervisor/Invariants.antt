@@ -1,5 +1,5 @@
 use Rattle.std.proofs.Common.{◌≡◌, ◌++◌, drop, flat_map, string_bytes}
-use Rattle.reports.specs.Inside.Texts.{rows_of}
+use Rattle.reports.proofs.Common.{rows_of}
 use Rattle.reports.proofs.places_report.by_supervisor.Given as goal
 
 abbrev pub invariant-loop-at : goal.invariant-loop-at

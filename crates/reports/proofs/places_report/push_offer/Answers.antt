@@ -1,8 +1,7 @@
 use Rattle.std.proofs.Common.{◌++◌, [], ◌∷◌, string_bytes, arith, ap, ◌∙◌}
-use Rattle.std.specs.Fmt.{styled_text, styled_decimal}
+use Rattle.reports.proofs.Common.{styled_text, styled_decimal, left, right}
 use Rattle.reports.proofs.Widths.{left_code, right_number}
 use Rattle.reports.proofs.Lines.{joined_six}
-use Rattle.reports.specs.Texts.{left, right}
 use Rattle.reports.proofs.places_report.push_offer.Goals as goal
 
 pub returns : goal.returns

@@ -1,9 +1,6 @@
 use Rattle.std.proofs.Common.{List, length, slice_get, refl, sym, ap, ◌∙◌}
-use Rattle.std.specs.Str.{bytes_eq}
-use Rattle.std.proofs.lemmas.Option.{slice_get_read}
-use Rattle.rolls.specs.declared.entries.Project.{Project}
+use Rattle.reports.proofs.Common.{bytes_eq, slice_get_read, Project, project_row}
 use Rattle.reports.proofs.Lines.{next, appended_chosen}
-use Rattle.reports.specs.Inside.Texts.{project_row}
 use Rattle.reports.proofs.places_report.push_offered.Goals as goal
 
 pub loop-position-preserved : goal.loop-position-preserved

@@ -1,6 +1,5 @@
 use Rattle.std.proofs.Common.{◌≡◌, ◌++◌, ℕ, Some, slice_get, drop, flat_map, filter, string_bytes}
-use Rattle.std.specs.Str.{bytes_eq}
-use Rattle.reports.specs.Inside.Texts.{AreLoads, own_rows, project_row}
+use Rattle.reports.proofs.Common.{bytes_eq, AreLoads, own_rows, project_row}
 use Rattle.reports.proofs.places_report.push_offered.Given as goal
 
 abbrev pub invariant-loop-position : goal.invariant-loop-position

@@ -1,12 +1,6 @@
 use Rattle.std.proofs.Common.{◌++◌, ◌-◌, min, [], ◌∷◌, List, filter, flat_map, string_bytes, sym, ap, ◌∙◌, append_assoc}
-use Rattle.std.specs.Str.{bytes_eq}
-use Rattle.rolls.specs.declared.entries.Project.{Project}
+use Rattle.reports.proofs.Common.{bytes_eq, Project, Places, Loads, Offers, project_row, left, right, load_row, places_left, placed_in_project_by}
 use Rattle.reports.proofs.Lines.{chosen}
-use Rattle.reports.specs.declared.places_report.Places.{Places}
-use Rattle.reports.specs.declared.places_report.Places.TheVariants.{Loads, Offers}
-use Rattle.reports.specs.Inside.Texts.{project_row}
-use Rattle.reports.specs.Texts.{left, right, load_row, places_left}
-use Rattle.rolls.specs.State.{placed_in_project_by}
 use Rattle.reports.proofs.places_report.push_project.Goals as goal
 
 pub returns-in_ok-push_load-in-Loads : goal.returns-in_ok-push_load-in-Loads

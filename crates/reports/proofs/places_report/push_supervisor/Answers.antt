@@ -1,10 +1,5 @@
 use Rattle.std.proofs.Common.{◌≡◌, ℕ, ◌++◌, string_bytes, refl, sym, ap, ◌∙◌, append_assoc}
-use Rattle.rolls.specs.State.{State, placed_with_supervisor_by}
-use Rattle.rolls.specs.declared.entries.Supervisor.{Supervisor}
-use Rattle.reports.specs.declared.places_report.Places.{Places}
-use Rattle.reports.specs.declared.places_report.Places.TheVariants.{Loads, Offers}
-use Rattle.reports.specs.Inside.Texts.{own_rows, rows_of}
-use Rattle.reports.specs.Texts.{load_row}
+use Rattle.reports.proofs.Common.{State, placed_with_supervisor_by, Supervisor, Places, Loads, Offers, own_rows, rows_of, load_row}
 use Rattle.reports.proofs.places_report.push_supervisor.Goals as goal
 use Rattle.reports.proofs.places_report.push_supervisor.Goals.{in-Loads+in_ok-push_load, in_default}
 

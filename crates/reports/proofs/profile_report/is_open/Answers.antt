@@ -1,6 +1,5 @@
 use Rattle.std.proofs.Common.{false, Option, ap}
-use Rattle.std.specs.Option.{option_map_or}
-use Rattle.rolls.specs.declared.rounds.Round.{Round}
+use Rattle.reports.proofs.Common.{option_map_or, Round}
 use Rattle.reports.proofs.profile_report.is_open.Goals as goal
 
 pub returns-in-Some : goal.returns-in-Some

@@ -1,11 +1,7 @@
 use Rattle.std.proofs.Common.{◌≡◌, ◌++◌, List, ℕ, [], ◌∷◌, length, codes, arith, ap, ◌∙◌, append_assoc}
-use Rattle.std.specs.List.{flat_map, range_with_len}
-use Rattle.std.specs.Fmt.{styled_decimal}
-use Rattle.spa.specs.declared.TheConstants.{RANKS}
-use Rattle.rolls.specs.State.{lists_of, placed_in_round}
+use Rattle.reports.proofs.Common.{flat_map, range_with_len, styled_decimal, RANKS, lists_of, placed_in_round, right, state_word, rank_row}
 use Rattle.rolls.specs.declared.rounds.Listed.{Listed}
 use Rattle.reports.proofs.Widths.{right_number}
-use Rattle.reports.specs.Texts.{right, state_word, rank_row}
 use Rattle.reports.proofs.profile_report.profile.Goals as goal
 
 -- three lines and what follows them, joined from the right or from the left

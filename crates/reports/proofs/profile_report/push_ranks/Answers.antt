@@ -1,10 +1,7 @@
 use Rattle.std.proofs.Common.{◌≡◌, suc, ◌+◌, ◌-◌, ◌++◌, List, ℕ, [], ◌∷◌, length, replicate, codes, decimal, string_bytes, arith, sym, ap, ◌∙◌, append_assoc}
-use Rattle.std.specs.Fmt.{styled_decimal}
-use Rattle.spa.specs.declared.TheConstants.{RANKS}
-use Rattle.rolls.specs.State.{placed_at_rank}
+use Rattle.reports.proofs.Common.{styled_decimal, RANKS, placed_at_rank, left, right, rank_row}
 use Rattle.reports.proofs.Widths.{left_number, right_number}
 use Rattle.reports.proofs.Lines.{next_number, appended}
-use Rattle.reports.specs.Texts.{left, right, rank_row}
 use Rattle.reports.proofs.profile_report.push_ranks.Goals as goal
 
 -- the name of a rank in 8, of which 5 are for its word

@@ -1,7 +1,5 @@
 use Rattle.std.proofs.Common.{◌≡◌, ◌+◌, ◌-◌, ◌++◌, flat_map, string_bytes}
-use Rattle.std.specs.List.{range_with_len}
-use Rattle.spa.specs.declared.TheConstants.{RANKS}
-use Rattle.reports.specs.Texts.{rank_row}
+use Rattle.reports.proofs.Common.{range_with_len, RANKS, rank_row}
 use Rattle.reports.proofs.profile_report.push_ranks.Given as goal
 
 abbrev pub invariant-loop-k : goal.invariant-loop-k

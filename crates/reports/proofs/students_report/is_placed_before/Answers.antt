@@ -1,6 +1,5 @@
 use Rattle.std.proofs.Common.{false, nat_lt, Option, ap}
-use Rattle.std.specs.Option.{option_map_or}
-use Rattle.rolls.specs.declared.rounds.Placement.{Placement}
+use Rattle.reports.proofs.Common.{option_map_or, Placement}
 use Rattle.reports.proofs.students_report.is_placed_before.Goals as goal
 
 pub returns-in-Some : goal.returns-in-Some

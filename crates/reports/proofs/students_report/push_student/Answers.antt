@@ -1,9 +1,7 @@
 use Rattle.std.proofs.Common.{◌++◌, [], ◌∷◌, string_bytes, sym, ap, ◌∙◌, append_assoc}
-use Rattle.std.specs.Fmt.{styled_text}
+use Rattle.reports.proofs.Common.{styled_text, left, student_line, is_named}
 use Rattle.reports.proofs.Widths.{left_code}
 use Rattle.reports.proofs.Lines.{chosen}
-use Rattle.reports.specs.Texts.{left, student_line}
-use Rattle.reports.specs.Inside.Texts.{is_named}
 use Rattle.reports.proofs.students_report.push_student.Goals as goal
 
 pub returns-in_ok-writeln : goal.returns-in_ok-writeln

@@ -1,6 +1,5 @@
 use Rattle.reports.proofs.Lines.{next, appended_chosen}
-use Rattle.reports.specs.Inside.Texts.{is_named}
-use Rattle.reports.specs.Texts.{student_line}
+use Rattle.reports.proofs.Common.{is_named, student_line}
 use Rattle.reports.proofs.students_report.students.Goals as goal
 
 pub loop-student-preserved : goal.loop-student-preserved

@@ -1,6 +1,5 @@
 use Rattle.std.proofs.Common.{◌≡◌, ◌++◌, drop, flat_map, filter, string_bytes}
-use Rattle.reports.specs.Inside.Texts.{is_named}
-use Rattle.reports.specs.Texts.{student_line}
+use Rattle.reports.proofs.Common.{is_named, student_line}
 use Rattle.reports.proofs.students_report.students.Given as goal
 
 abbrev pub invariant-loop-student : goal.invariant-loop-student

@@ -1,8 +1,7 @@
 use Rattle.std.proofs.Common.{◌≡◌, ℕ, ◌-◌, List, map, None, IfOk, string_bytes, refl, sym, subst}
 use Rattle.spa.specs.Instance.{Instance, Supervisor, Project, Student, supervisor_codes, project_codes, student_codes}
 use Rattle.spa.specs.Named.{Named, instance_of, students_named}
-use Rattle.rolls.specs.State.{State, supervisor_key, project_key, list_key, lists_of}
-use Rattle.intake.specs.Parts.{Rise}
+use Rattle.reports.proofs.Common.{State, supervisor_key, project_key, list_key, lists_of, Rise}
 use Rattle.intake.proofs.Alone.{no_pairs, instance_alone}
 use Rattle.reports.proofs.Risen.{risen}
 use Rattle.reports.proofs.text_report.instance_text.Goals as goal

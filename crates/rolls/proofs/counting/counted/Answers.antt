@@ -1,8 +1,5 @@
 use Rattle.std.proofs.Common.{arith, sym, ap, ◌∙◌, ℕ, ◌+◌, cond}
-use Rattle.std.specs.Prelude.{◌&&◌}
-use Rattle.std.specs.Str.{bytes_eq}
-use Rattle.rolls.specs.declared.rounds.Placement.{Placement}
-use Rattle.rolls.specs.Counted.{is_made_by, offers}
+use Rattle.rolls.proofs.Common.{◌&&◌, bytes_eq, Placement, is_made_by, offers}
 use Rattle.rolls.proofs.Positions.{count_one_more}
 use Rattle.rolls.proofs.counting.counted.Goals as goal
 

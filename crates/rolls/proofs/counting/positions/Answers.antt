@@ -1,8 +1,5 @@
 use Rattle.std.proofs.Common.{List, ℕ, length, refl, sym, ap, subst, ◌∙◌}
-use Rattle.std.proofs.lemmas.Option.{slice_get_read}
-use Rattle.rolls.specs.declared.entries.Project.{Project}
-use Rattle.rolls.specs.State.{supervisor_key}
-use Rattle.rolls.specs.Inside.Place.{IsAt}
+use Rattle.rolls.proofs.Common.{slice_get_read, Project, supervisor_key, IsAt}
 use Rattle.rolls.proofs.Positions.{both_found, none_found_there}
 use Rattle.rolls.proofs.counting.positions.Goals as goal
 

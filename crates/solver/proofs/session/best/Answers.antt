@@ -1,4 +1,4 @@
-use Rattle.network.specs.Seen.{shape_of}
+use Rattle.solver.proofs.Common.{shape_of}
 use Rattle.solver.proofs.PricesProve.{places_best}
 use Rattle.solver.proofs.session.best.Goals as goal
 

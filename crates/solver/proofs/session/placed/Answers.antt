@@ -1,5 +1,5 @@
 use Rattle.std.proofs.Common.{◌∙◌, arith}
-use Rattle.spa.proofs.Places.{left_none, left_some}
+use Rattle.solver.proofs.Common.{left_none, left_some}
 use Rattle.solver.proofs.OneMoreStudent.{place_held}
 use Rattle.solver.proofs.session.placed.Goals as goal
 use Rattle.solver.proofs.session.placed.Goals.{in-Some, in_default}

@@ -1,18 +1,9 @@
 use Rattle.std.proofs.Common.{ℕ, ◌≡◌, ◌+◌, ◌-◌, ◌<◌, ◌≤◌, ◌==◌, ◌∙◌, cond, eqb, arith, List, length, map, Option, Some, ap, length-set, drop, [], slice_get}
-use Rattle.spa.specs.declared.TheConstants.{RANKS, COMPONENTS}
-use Rattle.spa.specs.Shape.{Shape, list_of, choice_at, IsPlaceOf}
-use Rattle.spa.specs.Matching.{Pair, rank, rank_in}
+use Rattle.solver.proofs.Common.{RANKS, COMPONENTS, Shape, list_of, choice_at, IsPlaceOf, Pair, rank, rank_in, rest_some, count_none, rank_of_place, shape_of, Seen, length-map, Aim, Places, HasPlaces, IsNetworkKept}
 use Rattle.spa.proofs.OneMore.{one_at_most, one_more}
-use Rattle.spa.proofs.Places.{rest_some, count_none, rank_of_place}
-use Rattle.network.specs.Seen.{shape_of, Seen}
 use Rattle.solver.proofs.PricesProve.{list_short}
 use Rattle.solver.proofs.OneMoreStudent.{place_held}
 use Rattle.std.proofs.Math.ListN.{drop_of_length-le}
-use Rattle.std.proofs.lemmas.List.{length-map}
-use Rattle.spa.specs.declared.aim.Aim.{Aim}
-use Rattle.spa.specs.Places.{Places}
-use Rattle.spa.specs.Matched.{HasPlaces}
-use Rattle.solver.specs.Inside.Kept.{IsNetworkKept}
 use Rattle.solver.proofs.session.ranked.Goals as goal
 use Rattle.solver.proofs.session.ranked.Goals.{in-Some, in_default}
 

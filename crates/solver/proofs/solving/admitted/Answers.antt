@@ -1,15 +1,7 @@
 use Rattle.std.proofs.Common.{ℕ, ◌≤◌, sym, subst, arith, List, Option, length, ◌∙◌, ap}
-use Rattle.spa.specs.declared.TheConstants.{RANKS}
-use Rattle.spa.specs.Order.{order}
-use Rattle.spa.specs.Shape.{Shape, IsPlaceOf, list_of}
-use Rattle.spa.specs.Matching.{IsBest}
-use Rattle.spa.specs.Matched.{pairs}
-use Rattle.verdict.specs.Verdict.{IsProvedBest}
+use Rattle.solver.proofs.Common.{RANKS, order, Shape, IsPlaceOf, list_of, IsBest, pairs, IsProvedBest, IfOk-from_err, length-map, weighed}
 use Rattle.solver.proofs.PricesProve.{shape_is, list_short}
 use Rattle.solver.proofs.FiveConditions.{proved_best}
-use Rattle.std.proofs.lemmas.Result.{IfOk-from_err}
-use Rattle.std.proofs.lemmas.List.{length-map}
-use Rattle.solver.specs.Inside.Weights.{weighed}
 use Rattle.solver.proofs.solving.admitted.Goals as goal
 
 pub matching_of-requires-clause-small : goal.matching_of-requires-clause-small

@@ -1,8 +1,5 @@
 use Rattle.std.proofs.Common.{◌≡◌, ◌≤◌, ◌∙◌, sym, subst, arith, ℕ, get_or}
-use Rattle.spa.specs.Places.{Places, lex_ops}
-use Rattle.std.proofs.lemmas.List.{get_or_default}
-use Rattle.spa.specs.declared.TheConstants.{COMPONENTS}
-use Rattle.network.specs.declared.TheConstants.{LARGEST_PRICE}
+use Rattle.solver.proofs.Common.{Places, lex_ops, get_or_default, COMPONENTS, LARGEST_PRICE}
 use Rattle.solver.proofs.RowsOfWorths.{rows_more, all_rows}
 use Rattle.solver.proofs.solving.rows.Goals as goal
 

@@ -1,12 +1,5 @@
 use Rattle.std.proofs.Common.{◌≡◌, ◌≤◌, ◌-◌, ◌∙◌, ℕ, ℤ, List, length, length-set, ap, sym, arith, unsigned_abs}
-use Rattle.std.specs.Prelude.{neg_ℤ}
-use Rattle.std.proofs.lemmas.Int.{ints}
-use Rattle.spa.specs.Row.{at}
-use Rattle.spa.specs.Order.{as_read}
-use Rattle.spa.specs.Places.{Places, places_of, row, lex_ops}
-use Rattle.spa.specs.LexLaw.{IsLexicographic}
-use Rattle.spa.specs.declared.TheConstants.{COMPONENTS}
-use Rattle.spa.specs.declared.aim.Aim.TheVariants.{Generous}
+use Rattle.solver.proofs.Common.{neg_ℤ, ints, at, as_read, Places, places_of, row, lex_ops, IsLexicographic, COMPONENTS, Generous}
 use Rattle.spa.proofs.Rows.{filled_more}
 use Rattle.spa.proofs.GenerousRows.{read_from}
 use Rattle.solver.proofs.worths.turned.Goals as goal

@@ -1,6 +1,5 @@
 use Rattle.std.proofs.Common.{arith}
-use Rattle.spa.specs.declared.TheConstants.{COMPONENTS}
-use Rattle.spa.specs.Inside.Places.{places_of_same}
+use Rattle.solver.proofs.Common.{COMPONENTS, places_of_same}
 use Rattle.solver.proofs.WorthRows.{greedy_row, generous_row}
 use Rattle.solver.proofs.worths.worth_of.Goals as goal
 use Rattle.solver.proofs.worths.worth_of.Goals.{in-Greedy, in-Generous}

@@ -1,5 +1,5 @@
 use Rattle.std.proofs.Common.{◌≡◌, ℕ, List, sym, ◌∙◌}
-use Rattle.std.proofs.lemmas.Slice.Eq.{bytes_eq-Decides}
+use Rattle.spa.proofs.Common.{bytes_eq-Decides}
 use Rattle.spa.proofs.Places.{slice_get_at}
 use Rattle.spa.proofs.codes.position_at.Goals as goal
 

@@ -1,7 +1,5 @@
 use Rattle.std.proofs.Common.{◌≡◌, ◌∙◌, ℕ, ◌+◌, ◌<◌, ◌≤◌, ◌==◌, cond, eqb, arith, length, ap, slice_index}
-use Rattle.spa.specs.Shape.{Shape, list_of, choice_at, supervisor_of}
-use Rattle.spa.specs.Matching.{Pair}
-use Rattle.spa.specs.Matched.{in_project, with_supervisor}
+use Rattle.spa.proofs.Common.{Shape, list_of, choice_at, supervisor_of, Pair, in_project, with_supervisor}
 use Rattle.spa.proofs.OneMore.{one_at_most}
 use Rattle.spa.proofs.Places.{rest_end, count_none, count_some}
 use Rattle.spa.proofs.matching.counted.Goals as goal

@@ -1,7 +1,5 @@
 use Rattle.std.proofs.Common.{◌≡◌, ℕ, ◌+◌, ◌≤◌, ◌==◌, slice_index}
-use Rattle.spa.specs.Shape.{supervisor_of}
-use Rattle.spa.specs.Matching.{Pair}
-use Rattle.spa.specs.Matched.{in_project, with_supervisor}
+use Rattle.spa.proofs.Common.{supervisor_of, Pair, in_project, with_supervisor}
 use Rattle.spa.proofs.Places.{rest}
 use Rattle.spa.proofs.matching.counted.Given as goal
 

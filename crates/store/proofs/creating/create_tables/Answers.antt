@@ -1,10 +1,7 @@
 use Rattle.std.proofs.Common.{◌≡◌, Err, ap, rules}
-use Rattle.sqlite.specs.Held.{state}
-use Rattle.store.specs.Inside.Tables.{Empties}
+use Rattle.store.proofs.Common.{state, Empties, Seen, IsHinderedCreating}
 use Rattle.store.proofs.Commit.{made_one, sound_one, saved_by, left_by, dropped_by}
-use Rattle.sqlite.specs.State.{State as Seen}
 use Rattle.tables.specs.declared.fault.TableFault.TheVariants.{Storage}
-use Rattle.store.specs.Causes.{IsHinderedCreating}
 use Rattle.store.proofs.Migrated.{stopped_within}
 use Rattle.store.proofs.creating.create_tables.Goals as goal
 

@@ -1,6 +1,5 @@
 use Rattle.std.proofs.Common.{◌≡◌, false, true, sym, ◌∙◌}
-use Rattle.tables.specs.Layout.{is_there}
-use Rattle.tables.specs.Table.{shape_of}
+use Rattle.store.proofs.Common.{is_there, shape_of}
 use Rattle.store.proofs.ListedTables.{is_next, so_far}
 use Rattle.store.proofs.creating.has_none_of.Goals as goal
 

@@ -1,8 +1,5 @@
 use Rattle.std.proofs.Common.{◌≡◌, false, take}
-use Rattle.sqlite_rules.specs.Lists.{Has}
-use Rattle.tables.specs.Layout.{is_there}
-use Rattle.row_model.specs.declared.table.Table.{Table}
-use Rattle.tables.specs.Table.{shape_of}
+use Rattle.store.proofs.Common.{Has, is_there, Table, shape_of}
 use Rattle.store.proofs.creating.has_none_of.Given as goal
 
 abbrev pub invariant-loop-table : goal.invariant-loop-table

@@ -1,16 +1,7 @@
 use Rattle.std.proofs.Common.{◌≤◌, length, refl, arith, ◌∙◌}
-use Rattle.tables.proofs.Runs.{part_none, part_ok, part_then}
+use Rattle.store.proofs.Common.{part_none, part_ok, part_then, Memory, lacks_after, Database, Table, slice_get-get_or, IsTableMade, IsUnmade, made_here, HasCleanDisk, state}
 use Rattle.store.proofs.NewTables.{made_all, made_more, made_none}
 use Rattle.std.proofs.Common.{◌≡◌, ℕ, Err, Option, rules}
-use Rattle.tables.specs.declared.fault.TableFault.TheVariants.{Memory}
-use Rattle.tables.proofs.Starved.{lacks_after}
-use Rattle.sqlite.specs.Effect.{Database}
-use Rattle.row_model.specs.declared.table.Table.{Table}
-use Rattle.std.proofs.lemmas.Option.{slice_get-get_or}
-use Rattle.tables.specs.Causes.{IsTableMade, IsUnmade}
-use Rattle.tables.specs.Table.{made_here}
-use Rattle.sqlite.specs.State.{HasCleanDisk}
-use Rattle.sqlite.specs.Held.{state}
 use Rattle.store.proofs.Causes.{one_refused, ran_all, ran_more}
 use Rattle.store.proofs.creating.make_each.Goals as goal
 

@@ -1,11 +1,5 @@
 use Rattle.std.proofs.Common.{◌≡◌, take, Ok}
-use Rattle.sqlite.specs.Held.{state}
-use Rattle.tables.specs.Steps.{Does}
-use Rattle.tables.specs.Inside.Steps.{Stays}
-use Rattle.tables.specs.declared.fault.TableFault.{TableFault}
-use Rattle.sqlite.specs.State.{HasCleanDisk}
-use Rattle.store.specs.Tables.{MakesTables}
-use Rattle.store.specs.Causes.{RanTables}
+use Rattle.store.proofs.Common.{state, Does, Stays, TableFault, HasCleanDisk, MakesTables, RanTables}
 use Rattle.store.proofs.creating.make_each.Given as goal
 
 abbrev pub invariant-loop-table : goal.invariant-loop-table

@@ -1,12 +1,5 @@
 use Rattle.std.proofs.Common.{◌∙◌, inr, arith, refl, rules}
-use Rattle.sqlite.specs.State.{HasCleanDisk}
-use Rattle.sqlite.specs.Held.{state}
-use Rattle.tables.proofs.Starved.{lacks_after}
-use Rattle.tables.specs.declared.statements.Entering.TheVariants.{New}
-use Rattle.tables.specs.Causes.{IsCausedInside, IsRefusedIn}
-use Rattle.tables.proofs.Causes.{stopped_after}
-use Rattle.tables.proofs.Runs.{part_then}
-use Rattle.store.specs.Causes.{IsHinderedCreating, OfNumber}
+use Rattle.store.proofs.Common.{HasCleanDisk, state, lacks_after, New, IsCausedInside, IsRefusedIn, stopped_after, part_then, IsHinderedCreating, OfNumber}
 use Rattle.store.proofs.NewTables.{created}
 use Rattle.store.proofs.creating.make_tables.Goals as goal
 

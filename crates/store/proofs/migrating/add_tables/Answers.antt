@@ -1,8 +1,5 @@
 use Rattle.std.proofs.Common.{◌∙◌, arith}
-use Rattle.tables.proofs.Starved.{lacks_after}
-use Rattle.sqlite.specs.State.{HasCleanDisk}
-use Rattle.sqlite.specs.Held.{state}
-use Rattle.tables.proofs.Runs.{part_then}
+use Rattle.store.proofs.Common.{lacks_after, HasCleanDisk, state, part_then}
 use Rattle.store.proofs.Migrated.{adds_tables_by}
 use Rattle.store.proofs.migrating.add_tables.Goals as goal
 

@@ -1,13 +1,5 @@
 use Rattle.std.proofs.Common.{◌≡◌, Err, inl, inr, arith, rules}
-use Rattle.sqlite.specs.State.{HasCleanDisk}
-use Rattle.sqlite.specs.Held.{state}
-use Rattle.tables.specs.declared.fault.TableFault.TheVariants.{Memory}
-use Rattle.tables.proofs.Starved.{lacks_after}
-use Rattle.tables.specs.Causes.{IsCausedInside, IsRefusedIn}
-use Rattle.tables.specs.declared.statements.Entering.TheVariants.{InPlace}
-use Rattle.tables.proofs.Causes.{stopped_after, stopped_as}
-use Rattle.tables.proofs.Runs.{part_then}
-use Rattle.store.specs.Causes.{IsHinderedToAddTables, IsHinderedToMigrate, OfNumber}
+use Rattle.store.proofs.Common.{HasCleanDisk, state, Memory, lacks_after, IsCausedInside, IsRefusedIn, InPlace, stopped_after, stopped_as, part_then, IsHinderedToAddTables, IsHinderedToMigrate, OfNumber}
 use Rattle.store.proofs.Migrated.{lifts_edition_by}
 use Rattle.store.proofs.migrating.lift_edition.Goals as goal
 

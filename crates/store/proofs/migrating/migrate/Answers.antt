@@ -1,13 +1,7 @@
 use Rattle.std.proofs.Common.{◌≡◌, ◌↔◌, false, Err, inl, inr, ap, subst, rules}
-use Rattle.sqlite.specs.Held.{state}
-use Rattle.sqlite.specs.Schema.{Schema}
-use Rattle.store.specs.Editions.{migrated}
-use Rattle.store.specs.Saving.{AreActedOnAmong}
-use Rattle.store.specs.Inside.Migrating.{Rises}
+use Rattle.store.proofs.Common.{state, Schema, migrated, AreActedOnAmong, Rises, Seen, IsHinderedToMigrate}
 use Rattle.store.proofs.Commit.{made_one, sound_one, saved_by, left_by, dropped_by}
-use Rattle.sqlite.specs.State.{State as Seen}
 use Rattle.tables.specs.declared.fault.TableFault.TheVariants.{Storage}
-use Rattle.store.specs.Causes.{IsHinderedToMigrate}
 use Rattle.store.proofs.Migrated.{begun_quiet, none_acts, rises_by, stopped_within}
 use Rattle.store.proofs.migrating.migrate.Goals as goal
 

@@ -1,6 +1,5 @@
 use Rattle.std.proofs.Common.{◌≡◌, ◌↔◌, false, List, subst}
-use Rattle.row_model.specs.declared.table.Table.{Table}
-use Rattle.store.specs.Saving.{AreActedOnAmong, AreLeftAmong}
+use Rattle.store.proofs.Common.{Table, AreActedOnAmong, AreLeftAmong}
 use Rattle.store.proofs.quiet.are_left.Goals as goal
 
 pub returns-clause-sound : goal.returns-clause-sound

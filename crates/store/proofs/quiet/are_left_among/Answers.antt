@@ -1,7 +1,5 @@
 use Rattle.std.proofs.Common.{◌≡◌, length, true≢false, refl, sym, ◌∙◌, arith}
-use Rattle.sqlite_rules.specs.Lists.{Has}
-use Rattle.row_model.specs.declared.table.Table.{Table}
-use Rattle.store.specs.Saving.{IsLeftAlone, IsActedOnAt}
+use Rattle.store.proofs.Common.{Has, Table, IsLeftAlone, IsActedOnAt}
 use Rattle.store.proofs.ListedTables.{so_far, of_each, is_next}
 use Rattle.store.proofs.Among.{is_among, stands_among}
 use Rattle.store.proofs.quiet.are_left_among.Goals as goal

@@ -1,7 +1,5 @@
 use Rattle.std.proofs.Common.{take}
-use Rattle.sqlite_rules.specs.Lists.{Has}
-use Rattle.row_model.specs.declared.table.Table.{Table}
-use Rattle.store.specs.Saving.{IsLeftAlone, IsActedOnAt}
+use Rattle.store.proofs.Common.{Has, Table, IsLeftAlone, IsActedOnAt}
 use Rattle.store.proofs.quiet.are_left_among.Given as goal
 
 abbrev pub invariant-loop-table : goal.invariant-loop-table

@@ -1,7 +1,5 @@
 use Rattle.std.proofs.Common.{take}
-use Rattle.sqlite_rules.specs.Lists.{Has}
-use Rattle.row_model.specs.declared.table.Table.{Table}
-use Rattle.store.specs.Inside.Reading.{IsListedAlone}
+use Rattle.store.proofs.Common.{Has, Table, IsListedAlone}
 use Rattle.store.proofs.reading.are_all_listed.Given as goal
 
 abbrev pub invariant-loop-table : goal.invariant-loop-table

@@ -1,8 +1,5 @@
 use Rattle.std.proofs.Common.{◌≡◌, ◌∙◌, pos, ap, sym, arith}
-use Rattle.std.proofs.lemmas.Bool.Decides.{nat_tests}
-use Rattle.sqlite.specs.declared.types.Value.TheVariants.{Int}
-use Rattle.sqlite.specs.Order.{column}
-use Rattle.store.specs.Editions.{number_of}
+use Rattle.store.proofs.Common.{nat_tests, Int, column, number_of}
 use Rattle.store.proofs.ReadRows.{is_numbered}
 use Rattle.store.proofs.reading.are_numbered.Goals.{then-column_count-eq3, else-column_count-eq3}
 use Rattle.store.proofs.reading.are_numbered.Goals as goal

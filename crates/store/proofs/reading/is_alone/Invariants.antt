@@ -1,7 +1,5 @@
 use Rattle.std.proofs.Common.{◌≢◌, take}
-use Rattle.sqlite_rules.specs.Lists.{Has}
-use Rattle.row_model.specs.declared.table.Table.{Table}
-use Rattle.store.specs.Inside.Reading.{IsElsewhere}
+use Rattle.store.proofs.Common.{Has, Table, IsElsewhere}
 use Rattle.store.proofs.reading.is_alone.Given as goal
 
 abbrev pub invariant-loop-other : goal.invariant-loop-other

@@ -1,11 +1,5 @@
 use Rattle.std.proofs.Common.{◌≡◌, Err, List, subst, sym, rules}
-use Rattle.sqlite.specs.Held.{state}
-use Rattle.row_model.specs.declared.row.Change.{Change}
-use Rattle.row_model.specs.Rows.{RowOf}
-use Rattle.rolls.specs.Rows.{AreRowsOf}
-use Rattle.editions.specs.Editions.{migrating_changes}
-use Rattle.store.specs.Inside.Reading.{FindsOffice}
-use Rattle.store.specs.declared.fault.StoreFault.TheVariants.{Damaged}
+use Rattle.store.proofs.Common.{state, Change, RowOf, AreRowsOf, migrating_changes, FindsOffice, Damaged}
 use Rattle.store.proofs.FoundOffice.{found_in}
 use Rattle.store.proofs.reading.office_in.Goals as goal
 

@@ -1,12 +1,7 @@
 use Rattle.std.proofs.Common.{◌≡◌, ◌≢◌, ◌+◌, length, Err, refl, sym, ap, subst, ◌∙◌, arith, rules}
-use Rattle.sqlite.specs.State.{HasCleanDisk}
-use Rattle.sqlite.specs.Held.{state}
-use Rattle.tables.proofs.Runs.{rests_then, survives_both, survives_none}
-use Rattle.store.specs.declared.fault.StoreFault.TheVariants.{Damaged}
-use Rattle.store.specs.Inside.Reading.{HoldsUnread, ReadsAll, ReadsSome}
+use Rattle.store.proofs.Common.{HasCleanDisk, state, rests_then, survives_both, survives_none, Damaged, HoldsUnread, ReadsAll, ReadsSome, Storage}
 use Rattle.store.proofs.AllRows.{reads_none, reads_more, reads_all, unread_then}
 use Rattle.store.proofs.Among.{are_once, once, some_tables}
-use Rattle.store.specs.declared.fault.StoreFault.TheVariants.{Storage}
 use Rattle.store.proofs.Causes.{table_unread}
 use Rattle.store.proofs.reading.read_rows.Goals as goal
 

@@ -1,8 +1,5 @@
 use Rattle.std.proofs.Common.{◌≡◌, false}
-use Rattle.sqlite.specs.State.{HasCleanDisk, Survives}
-use Rattle.sqlite.specs.Held.{state}
-use Rattle.tables.specs.Steps.{Rests}
-use Rattle.store.specs.Inside.Reading.{ReadsSome}
+use Rattle.store.proofs.Common.{HasCleanDisk, Survives, state, Rests, ReadsSome}
 use Rattle.store.proofs.reading.read_rows.Given as goal
 
 abbrev pub invariant-loop-table : goal.invariant-loop-table

@@ -1,5 +1,5 @@
 use Rattle.std.proofs.Common.{Err, sym, ap, subst, ◌∙◌}
-use Rattle.sqlite_rules.specs.Lists.{Has}
+use Rattle.store.proofs.Common.{Has}
 use Rattle.store.proofs.Causes.{of_storage}
 use Rattle.store.proofs.ListedTables.{holds_none}
 use Rattle.store.proofs.reading.read_table.Goals as goal

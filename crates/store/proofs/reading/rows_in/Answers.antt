@@ -1,13 +1,5 @@
 use Rattle.std.proofs.Common.{◌≡◌, ◌≢◌, inl, refl, sym, ap, ◌∙◌, Err, List, map, drop, subst, arith, rules}
-use Rattle.sqlite.specs.Order.{Row as Values}
-use Rattle.sqlite.specs.State.{HasCleanDisk}
-use Rattle.sqlite.specs.Held.{state}
-use Rattle.tables.proofs.Runs.{rests_then, survives_both}
-use Rattle.row_model.specs.declared.table.Table.TheVariants.{Edition}
-use Rattle.store.specs.declared.fault.StoreFault.TheVariants.{Damaged, Storage}
-use Rattle.store.specs.Editions.{number_of, rolls_of}
-use Rattle.store.specs.Tables.{numbered}
-use Rattle.store.specs.Reading.{AreAllListed}
+use Rattle.store.proofs.Common.{Values, HasCleanDisk, state, rests_then, survives_both, Edition, Damaged, Storage, number_of, rolls_of, numbered, AreAllListed}
 use Rattle.store.proofs.AllRows.{none_back, holds_back, unchanged_then}
 use Rattle.store.proofs.Causes.{hindered_reading, of_storage, rows_unread}
 use Rattle.store.proofs.Among.{none_later}

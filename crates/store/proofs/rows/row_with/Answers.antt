@@ -1,8 +1,6 @@
 use Rattle.std.proofs.Common.{◌≡◌, ◌+◌, ◌∙◌, Err, length, get_or, sym, subst, rules}
-use Rattle.std.proofs.lemmas.List.{get_or_default}
+use Rattle.store.proofs.Common.{get_or_default, ReadsCells, Damaged}
 use Rattle.row_model.specs.declared.cell.Kind.TheVariants.{Text}
-use Rattle.store.specs.Inside.Reading.{ReadsCells}
-use Rattle.store.specs.declared.fault.StoreFault.TheVariants.{Damaged}
 use Rattle.store.proofs.CellByCell.{cells_more, no_row}
 use Rattle.store.proofs.rows.row_with.Goals as goal
 

@@ -1,4 +1,4 @@
-use Rattle.store.specs.Inside.Reading.{ReadsCells}
+use Rattle.store.proofs.Common.{ReadsCells}
 use Rattle.store.proofs.rows.row_with.Given as goal
 
 abbrev pub invariant-loop-at : goal.invariant-loop-at

@@ -1,6 +1,5 @@
 use Rattle.std.proofs.Common.{◌≡◌, Err, rules}
-use Rattle.sqlite_rules.proofs.ListLemmas.{has_at}
-use Rattle.store.specs.declared.fault.StoreFault.TheVariants.{Damaged}
+use Rattle.store.proofs.Common.{has_at, Damaged}
 use Rattle.store.proofs.rows.rows_with.Goals as goal
 
 pub returns-in_err-row_with-clause-damaged : goal.returns-in_err-row_with-clause-damaged

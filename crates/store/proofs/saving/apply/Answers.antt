@@ -1,7 +1,5 @@
-use Rattle.tables.proofs.Runs.{part_as, stepped_as}
-use Rattle.tables.specs.declared.statements.Entering.TheVariants.{InPlace, New}
+use Rattle.store.proofs.Common.{part_as, stepped_as, InPlace, New, second_so}
 use Rattle.store.proofs.Held.{hold_enter, hold_leave}
-use Rattle.std.specs.Cmp.{second_so}
 use Rattle.store.proofs.saving.apply.Goals as goal
 
 pub returns-in-Put-clause-step : goal.returns-in-Put-clause-step

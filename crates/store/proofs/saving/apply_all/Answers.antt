@@ -1,13 +1,7 @@
 use Rattle.std.proofs.Common.{◌≡◌, Err, refl, ◌∙◌}
-use Rattle.tables.specs.declared.fault.TableFault.TheVariants.{Memory}
-use Rattle.tables.proofs.Starved.{lacks_after}
-use Rattle.tables.proofs.Runs.{part_none, part_then}
+use Rattle.store.proofs.Common.{Memory, lacks_after, part_none, part_then, slice_get_read, GoesThrough, IsHinderedChange, HasCleanDisk, state}
 use Rattle.store.proofs.ChangesInOrder.{changes_more, changes_none}
 use Rattle.std.proofs.Common.{arith, length, rules}
-use Rattle.std.proofs.lemmas.Option.{slice_get_read}
-use Rattle.store.specs.Causes.{GoesThrough, IsHinderedChange}
-use Rattle.sqlite.specs.State.{HasCleanDisk}
-use Rattle.sqlite.specs.Held.{state}
 use Rattle.store.proofs.Causes.{one_refused, ran_more}
 use Rattle.store.proofs.saving.apply_all.Goals as goal
 

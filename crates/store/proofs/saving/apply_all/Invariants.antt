@@ -1,11 +1,5 @@
 use Rattle.std.proofs.Common.{◌≡◌, take, Ok}
-use Rattle.sqlite.specs.Held.{state}
-use Rattle.tables.specs.Steps.{Does}
-use Rattle.tables.specs.Inside.Steps.{Stays}
-use Rattle.tables.specs.declared.fault.TableFault.{TableFault}
-use Rattle.sqlite.specs.State.{HasCleanDisk}
-use Rattle.store.specs.Saving.{Applies}
-use Rattle.store.specs.Causes.{GoesThrough, Ran}
+use Rattle.store.proofs.Common.{state, Does, Stays, TableFault, HasCleanDisk, Applies, GoesThrough, Ran}
 use Rattle.store.proofs.saving.apply_all.Given as goal
 
 abbrev pub invariant-loop-change : goal.invariant-loop-change

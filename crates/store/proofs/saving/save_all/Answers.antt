@@ -1,10 +1,6 @@
 use Rattle.std.proofs.Common.{◌≡◌, Err, sym, ap, ◌∙◌, rules}
-use Rattle.sqlite.specs.State.{State as Seen}
-use Rattle.sqlite.specs.Held.{state}
+use Rattle.store.proofs.Common.{Seen, state, stopped_as, IsHinderedAmong, Applies}
 use Rattle.tables.specs.declared.fault.TableFault.TheVariants.{Storage}
-use Rattle.tables.proofs.Causes.{stopped_as}
-use Rattle.store.specs.Causes.{IsHinderedAmong}
-use Rattle.store.specs.Saving.{Applies}
 use Rattle.store.proofs.Causes.{of_storage}
 use Rattle.store.proofs.Commit.{left_after, dropped_by}
 use Rattle.store.proofs.Migrated.{stopped_after_all}

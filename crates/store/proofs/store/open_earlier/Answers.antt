@@ -1,8 +1,5 @@
 use Rattle.std.proofs.Common.{IsTrue, ap, ◌≡◌, ◌∙◌, Err, sym, arith, rules}
-use Rattle.sqlite.specs.State.{HasCleanDisk}
-use Rattle.sqlite.specs.Effect.{Database}
-use Rattle.sqlite.specs.Held.{state}
-use Rattle.store.specs.declared.fault.StoreFault.TheVariants.{Damaged, Storage}
+use Rattle.store.proofs.Common.{HasCleanDisk, Database, state, Damaged, Storage}
 use Rattle.store.proofs.Opening.{brings_left, kept_after, opens_migrated, migration_refused, migrated_others, unfit_all, unopened_by}
 use Rattle.store.proofs.store.open_earlier.Goals as goal
 

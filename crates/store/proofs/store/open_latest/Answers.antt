@@ -1,7 +1,5 @@
 use Rattle.std.proofs.Common.{IsTrue, ◌≡◌, ◌∙◌, Err, refl, sym, rules}
-use Rattle.sqlite.specs.Held.{state}
-use Rattle.store.specs.declared.fault.StoreFault.TheVariants.{Damaged}
-use Rattle.store.specs.Editions.{latest}
+use Rattle.store.proofs.Common.{state, Damaged, latest}
 use Rattle.store.proofs.Opening.{opens_found, others_kept, unfit_all, unopened_by}
 use Rattle.store.proofs.store.open_latest.Goals as goal
 

@@ -1,10 +1,7 @@
 use Rattle.std.proofs.Common.{◌≡◌, Err, inl, rules}
-use Rattle.sqlite.proofs.StateLemmas.{survives_weaker}
-use Rattle.store.specs.declared.fault.StoreFault.TheVariants.{Storage}
+use Rattle.store.proofs.Common.{survives_weaker, Storage, stopped_as, IsHinderedCreating, IsHinderedOpening}
 use Rattle.store.proofs.NewTables.{opens_new, founds_left, founds_others}
 use Rattle.store.proofs.Opening.{unopened_by}
-use Rattle.tables.proofs.Causes.{stopped_as}
-use Rattle.store.specs.Causes.{IsHinderedCreating, IsHinderedOpening}
 use Rattle.store.proofs.store.open_new.Goals as goal
 
 pub returns-in_err-create_tables-clause-unopened : goal.returns-in_err-create_tables-clause-unopened

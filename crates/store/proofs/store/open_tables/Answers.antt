@@ -1,9 +1,6 @@
 use Rattle.std.proofs.Common.{◌≡◌, ◌≢◌, subst, rules}
-use Rattle.sqlite.specs.Held.{state}
+use Rattle.store.proofs.Common.{state, latest, IsEditionOf, HasNone}
 use Rattle.editions.specs.declared.Edition.{Edition}
-use Rattle.store.specs.Editions.{latest}
-use Rattle.store.specs.Inside.Editions.{IsEditionOf}
-use Rattle.store.specs.Tables.{HasNone}
 use Rattle.store.proofs.Opening.{earlier_of, edition_there}
 use Rattle.store.proofs.store.open_tables.Goals as goal
 

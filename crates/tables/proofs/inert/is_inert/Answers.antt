@@ -1,5 +1,5 @@
 use Rattle.std.proofs.Common.{◌≡◌, ◌↔◌, Bool, false, sym, subst}
-use Rattle.tables.specs.Inert.{IsActedOn}
+use Rattle.tables.proofs.Common.{IsActedOn}
 use Rattle.tables.proofs.Quiet.{acted_on}
 use Rattle.tables.proofs.inert.is_inert.Goals as goal
 

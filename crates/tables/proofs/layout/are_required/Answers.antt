@@ -1,7 +1,5 @@
 use Rattle.std.proofs.Common.{◌≡◌, true, false, rules}
-use Rattle.std.proofs.lemmas.Iterator.{cases_from_all, YieldsList-from_zip, YieldsList-from_slice}
-use Rattle.tables.specs.Inside.Table.{column_by}
-use Rattle.tables.specs.Inside.Layout.{is_required}
+use Rattle.tables.proofs.Common.{cases_from_all, YieldsList-from_zip, YieldsList-from_slice, column_by, is_required}
 use Rattle.tables.proofs.Alike.{alike}
 use Rattle.tables.proofs.layout.are_required.Goals as goal
 

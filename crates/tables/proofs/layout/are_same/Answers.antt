@@ -1,7 +1,5 @@
 use Rattle.std.proofs.Common.{◌≡◌, ℕ, List, true, false, rules}
-use Rattle.std.proofs.lemmas.Iterator.{cases_from_all, YieldsList-from_zip, YieldsList-from_slice}
-use Rattle.tables.specs.Inside.Table.{places_by}
-use Rattle.std.specs.Str.{bytes_eq}
+use Rattle.tables.proofs.Common.{cases_from_all, YieldsList-from_zip, YieldsList-from_slice, places_by, bytes_eq}
 use Rattle.tables.proofs.Alike.{alike}
 use Rattle.tables.proofs.layout.are_same.Goals as goal
 

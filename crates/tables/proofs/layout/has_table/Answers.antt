@@ -1,8 +1,5 @@
 use Rattle.std.proofs.Common.{◌∙◌, ◌||◌, is_some, ap, sym}
-use Rattle.std.specs.List.{list_any}
-use Rattle.sqlite_schema.specs.Names.{table_named}
-use Rattle.tables.specs.Layout.{is_kept_of}
-use Rattle.tables.specs.Table.{TableShape, shape_of}
+use Rattle.tables.proofs.Common.{list_any, table_named, is_kept_of, TableShape, shape_of}
 use Rattle.tables.proofs.layout.has_table.Goals as goal
 
 pub returns-then-is_some : goal.returns-then-is_some

@@ -1,8 +1,5 @@
 use Rattle.std.proofs.Common.{ap, rules}
-use Rattle.std.proofs.lemmas.List.Sorted.{answers_always, ranks_by}
-use Rattle.std.specs.Ordering.{is_lt}
-use Rattle.sqlite.specs.Tree.{rowid}
-use Rattle.sqlite_value.proofs.OrderLemmas.{value_cmp_total}
+use Rattle.tables.proofs.Common.{answers_always, ranks_by, is_lt, rowid, value_cmp_total}
 use Rattle.tables.proofs.read.put_in_order.Goals as goal
 
 pub returns-clause-sorted : goal.returns-clause-sorted

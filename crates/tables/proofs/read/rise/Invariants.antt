@@ -1,5 +1,5 @@
 use Rattle.std.proofs.Common.{◌≡◌, length}
-use Rattle.tables.specs.Keyed.{rises}
+use Rattle.tables.proofs.Common.{rises}
 use Rattle.tables.proofs.read.rise.Given as goal
 
 abbrev pub invariant-loop-rest : goal.invariant-loop-rest

@@ -1,5 +1,4 @@
-use Rattle.sqlite.proofs.StateLemmas.{survives_weaker}
-use Rattle.sqlite.specs.Held.{state}
+use Rattle.tables.proofs.Common.{survives_weaker, state}
 use Rattle.tables.proofs.Told.{rows_are, commits_none, rests, unread_by}
 use Rattle.std.proofs.Common.{refl}
 use Rattle.tables.proofs.statements.read.Goals as goal

@@ -1,8 +1,6 @@
 use Rattle.std.proofs.Common.{◌≡◌, [], ◌∷◌, ◌++◌, length, take, sym, ap, ◌∙◌, arith}
-use Rattle.std.proofs.lemmas.List.{length-set, map-append, take_more, take_more_set}
-use Rattle.sqlite.specs.Values.{bound, bound_value}
+use Rattle.tables.proofs.Common.{length-set, map-append, take_more, take_more_set, bound, bound_value, value_of, values}
 use Rattle.sqlite_value.specs.Value.{owned}
-use Rattle.tables.specs.Table.{value_of, values}
 use Rattle.tables.proofs.write.values.Goals as goal
 
 pub loop-at-preserved : goal.loop-at-preserved

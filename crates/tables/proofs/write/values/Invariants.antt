@@ -1,6 +1,5 @@
 use Rattle.std.proofs.Common.{◌≡◌, length, take}
-use Rattle.sqlite.specs.Values.{bound}
-use Rattle.tables.specs.Table.{values as sql_values}
+use Rattle.tables.proofs.Common.{bound, sql_values}
 use Rattle.tables.proofs.write.values.Given as goal
 
 abbrev pub invariant-loop-at : goal.invariant-loop-at

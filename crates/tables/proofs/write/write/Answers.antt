@@ -1,8 +1,5 @@
 use Rattle.std.proofs.Common.{◌≡◌, inl, inr, sym, rules}
-use Rattle.std.proofs.lemmas.Bool.{cases_Bool}
-use Rattle.sqlite.specs.Held.{state}
-use Rattle.tables.specs.declared.fault.TableFault.TheVariants.{Memory, Storage}
-use Rattle.tables.specs.Faults.{fault_of}
+use Rattle.tables.proofs.Common.{cases_Bool, state, Memory, Storage, fault_of}
 use Rattle.tables.proofs.Ends.{stopped}
 use Rattle.tables.proofs.Starved.{lacks}
 use Rattle.tables.proofs.write.write.Goals as goal

@@ -1,5 +1,5 @@
 use Rattle.std.proofs.Common.{subst, ◌∙◌}
-use Rattle.std.specs.Io.KnownBytes.{Appends}
+use Rattle.wire.proofs.Common.{Appends}
 use Rattle.wire.proofs.ending.finish.Goals as goal
 
 pub returns-clause-wrote : goal.returns-clause-wrote

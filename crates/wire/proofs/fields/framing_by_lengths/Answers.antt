@@ -1,7 +1,5 @@
 use Rattle.std.proofs.Common.{Option, IfSome, length, refl, ap, subst, ◌∙◌, arith}
-use Rattle.httparse.specs.declared.spans.Span.{Span}
-use Rattle.httparse.specs.Spans.{IsWithin}
-use Rattle.wire.specs.Messages.{length_of}
+use Rattle.wire.proofs.Common.{Span, IsWithin, length_of}
 use Rattle.wire.proofs.FieldSearch.{no_length, one_length}
 use Rattle.wire.proofs.fields.framing_by_lengths.Goals as goal
 

@@ -1,7 +1,5 @@
 use Rattle.std.proofs.Common.{◌≡◌, ◌++◌, map, drop, length, IfSome}
-use Rattle.std.specs.Option.{option_map, option_to_list}
-use Rattle.httparse.specs.Spans.{header_bytes, span_bytes, IsWithin}
-use Rattle.wire.specs.Messages.{lengths}
+use Rattle.wire.proofs.Common.{option_map, option_to_list, header_bytes, span_bytes, IsWithin, lengths}
 use Rattle.wire.proofs.fields.framing_by_lengths.Given as goal
 
 abbrev pub invariant-loop-header : goal.invariant-loop-header

@@ -1,6 +1,5 @@
 use Rattle.std.proofs.Common.{refl, sym, ◌∙◌, arith}
-use Rattle.httparse.specs.Spans.{header_bytes}
-use Rattle.wire.specs.Messages.{is_named}
+use Rattle.wire.proofs.Common.{header_bytes, is_named}
 use Rattle.wire.proofs.FieldSearch.{any_found, any_left, any_none}
 use Rattle.wire.proofs.fields.has_field.Goals as goal
 

@@ -1,7 +1,5 @@
 use Rattle.std.proofs.Common.{◌≡◌, map, drop}
-use Rattle.std.specs.List.{list_any}
-use Rattle.httparse.specs.Spans.{header_bytes}
-use Rattle.wire.specs.Messages.{is_named}
+use Rattle.wire.proofs.Common.{list_any, header_bytes, is_named}
 use Rattle.wire.proofs.fields.has_field.Given as goal
 
 abbrev pub invariant-loop-header : goal.invariant-loop-header

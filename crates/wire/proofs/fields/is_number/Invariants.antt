@@ -1,6 +1,5 @@
 use Rattle.std.proofs.Common.{◌≡◌, drop}
-use Rattle.std.specs.List.{list_all}
-use Rattle.std.specs.Char.{is_ascii_digit}
+use Rattle.wire.proofs.Common.{list_all, is_ascii_digit}
 use Rattle.wire.proofs.fields.is_number.Given as goal
 
 abbrev pub invariant-loop-b : goal.invariant-loop-b

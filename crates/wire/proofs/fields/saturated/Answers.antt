@@ -1,12 +1,7 @@
 use Rattle.std.proofs.Common.{◌≡◌, ℕ, ◌+◌, ◌-◌, ◌*◌, ◌<◌, List, Bool, true, false, length, min, take, get_or, arith, refl, ◌&&◌, nat_lt, IsTrue}
-use Rattle.std.specs.List.{list_all}
-use Rattle.std.specs.Char.{digit_value, is_ascii_digit}
-use Rattle.std.specs.Str.Parse.{digits_value}
+use Rattle.wire.proofs.Common.{list_all, digit_value, is_ascii_digit, digits_value, nat_tests, MAX_BODY_BYTES, is_number}
 use Rattle.std.proofs.lemmas.List.Folds.{list_all_at}
 use Rattle.std.proofs.lemmas.Int.Digits.{digits_value_more}
-use Rattle.std.proofs.lemmas.Bool.Decides.{nat_tests}
-use Rattle.wire.specs.declared.TheConstants.{MAX_BODY_BYTES}
-use Rattle.wire.specs.Messages.{is_number}
 use Rattle.wire.proofs.fields.saturated.Goals as goal
 
 -- a step of a number that is cut off at the limit

@@ -1,6 +1,5 @@
 use Rattle.std.proofs.Common.{◌≡◌, ◌+◌, min, take}
-use Rattle.std.specs.Str.Parse.{digits_value}
-use Rattle.wire.specs.declared.TheConstants.{MAX_BODY_BYTES}
+use Rattle.wire.proofs.Common.{digits_value, MAX_BODY_BYTES}
 use Rattle.wire.proofs.fields.saturated.Given as goal
 
 abbrev pub invariant-loop-digit : goal.invariant-loop-digit

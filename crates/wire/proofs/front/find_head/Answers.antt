@@ -2,12 +2,8 @@ use Rattle.std.proofs.Common.{◌≡◌, ◌≤◌, ℕ, List, length, ap, subst
 use Rattle.httparse.specs.declared.Error.{Error}
 use Rattle.httparse.specs.declared.Status.{Status}
 use Rattle.httparse.specs.declared.Status.TheVariants.{Partial}
-use Rattle.httparse.specs.declared.spans.RequestSpans.{RequestSpans}
-use Rattle.httparse.specs.Grammar.{HasNoRequest, MayBecomeRequest}
+use Rattle.wire.proofs.Common.{RequestSpans, HasNoRequest, MayBecomeRequest, RequestExceeds, MAX_HEAD_BYTES, IsMalformed}
 use Rattle.httparse.specs.Outcome.{OnPartial}
-use Rattle.httparse.specs.Spans.{RequestExceeds}
-use Rattle.wire.specs.declared.TheConstants.{MAX_HEAD_BYTES}
-use Rattle.wire.specs.Messages.{IsMalformed}
 use Rattle.wire.proofs.Windows.{may_be_well_formed, has_room}
 use Rattle.wire.proofs.front.find_head.Goals as goal
 

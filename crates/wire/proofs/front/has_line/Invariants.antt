@@ -1,5 +1,5 @@
 use Rattle.std.proofs.Common.{◌≡◌, drop, false}
-use Rattle.wire.specs.Messages.{has_line}
+use Rattle.wire.proofs.Common.{has_line}
 use Rattle.wire.proofs.front.has_line.Given as goal
 
 abbrev pub invariant-loop-b : goal.invariant-loop-b

@@ -1,16 +1,7 @@
 use Rattle.std.proofs.Common.{◌≡◌, ◌<◌, ◌≤◌, ◌+◌, ◌-◌, ℕ, List, ◌++◌, inl, ap, subst, ◌∙◌, take, min, map, length, arith}
-use Rattle.std.proofs.lemmas.List.{take_min, length-take}
-use Rattle.httparse.specs.Spans.{header_bytes}
-use Rattle.httparse.specs.declared.spans.HeaderSpan.{HeaderSpan}
-use Rattle.httparse.specs.declared.spans.RequestSpans.{RequestSpans}
-use Rattle.wire.specs.declared.TheConstants.{MAX_HEAD_BYTES, MAX_BODY_BYTES}
-use Rattle.wire.specs.declared.fields.Framing.{Framing}
-use Rattle.wire.specs.declared.fields.Framing.TheVariants.{Length, Wrong, Long}
+use Rattle.wire.proofs.Common.{take_min, length-take, header_bytes, HeaderSpan, RequestSpans, MAX_HEAD_BYTES, MAX_BODY_BYTES, Framing, Length, Wrong, Long, Whole, Open, window, HeadFramed, framing_of, FindsHead, Judges}
 use Rattle.wire.specs.declared.front.Head.{Head}
 use Rattle.wire.specs.declared.front.Head.TheVariants.{Found, Malformed, Missing}
-use Rattle.wire.specs.declared.front.Judgement.TheVariants.{Whole, Open}
-use Rattle.wire.specs.Messages.{window, HeadFramed, framing_of}
-use Rattle.wire.specs.Inside.Judged.{FindsHead, Judges}
 use Rattle.wire.proofs.WholeStream.{framing_read, framed_stays, whole_message, cut_message, open_message, long_message, malformed_message}
 use Rattle.wire.proofs.front.judge.Goals as goal
 

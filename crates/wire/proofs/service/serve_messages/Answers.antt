@@ -1,11 +1,5 @@
 use Rattle.std.proofs.Common.{◌≡◌, ◌<◌, ℕ, ◌+◌, ◌-◌, ◌^◌, List, [], Option, Some, IfSome, refl, sym, subst, arith}
-use Rattle.wire.specs.declared.TheConstants.{MAX_MESSAGES}
-use Rattle.wire.specs.declared.outcome.End.{End}
-use Rattle.wire.specs.declared.outcome.End.TheVariants.{Hundred}
-use Rattle.wire.specs.declared.outcome.Served.{Served}
-use Rattle.wire.specs.Run.{MessageText}
-use Rattle.wire.specs.Inside.Served.{SoFar}
-use Rattle.wire.specs.Served.{ServedTo}
+use Rattle.wire.proofs.Common.{MAX_MESSAGES, End, Hundred, Served, MessageText, SoFar, ServedTo}
 use Rattle.wire.proofs.Runs.{nothing_yet, hundred_here}
 use Rattle.wire.proofs.ReaderEnd.{at_none}
 use Rattle.wire.proofs.OneMessage.{same_read, same_write, last_read, last_written, ended, nothing_served}

@@ -1,5 +1,5 @@
 use Rattle.std.proofs.Common.{◌≡◌, false}
-use Rattle.wire.specs.Inside.Served.{SoFar}
+use Rattle.wire.proofs.Common.{SoFar}
 use Rattle.wire.proofs.service.serve_messages.Given as goal
 
 abbrev pub invariant-loop-answered : goal.invariant-loop-answered

@@ -1,11 +1,7 @@
 use Rattle.std.proofs.Common.{◌≡◌, ℕ, Bool, false, List, Option, Err, subst, sym, refl, add-zero}
-use Rattle.wire.specs.declared.front.Parts.{Parts}
+use Rattle.wire.proofs.Common.{Parts, End, Read, Write, FindsMessage, IsOpenBut, read_failed, write_failed}
 use Rattle.wire.specs.declared.window.Next.{Next}
 use Rattle.wire.specs.declared.window.Next.TheVariants.{Message, Ends}
-use Rattle.wire.specs.declared.outcome.End.{End}
-use Rattle.wire.specs.declared.outcome.StreamFault.TheVariants.{Read, Write}
-use Rattle.wire.specs.Inside.Taken.{FindsMessage, IsOpenBut}
-use Rattle.wire.specs.Run.{read_failed, write_failed}
 use Rattle.wire.proofs.OneMessage.{fault_counts, same_read, same_write, no_memory_read, no_memory_write, breaks_reading, breaks_writing, message_goes_on, end_goes_on}
 use Rattle.wire.proofs.service.serve_next.Goals as goal
 

@@ -1,10 +1,5 @@
 use Rattle.std.proofs.Common.{◌≡◌, ◌∙◌, ℕ, ◌+◌, List, slice_range, ap, subst, sym, arith, add-zero}
-use Rattle.httparse.specs.Spans.{span_bytes}
-use Rattle.wire.specs.Run.{MessageText}
-use Rattle.wire.specs.declared.front.Parts.{Parts}
-use Rattle.std.specs.Io.KnownBytes.{Appends}
-use Rattle.wire.specs.Answers.{answer_bytes}
-use Rattle.wire.specs.Inside.Run.{said_at}
+use Rattle.wire.proofs.Common.{span_bytes, MessageText, Parts, Appends, answer_bytes, said_at}
 use Rattle.wire.proofs.service.serve_one.Goals as goal
 
 -- what the parts of these bytes say

@@ -1,6 +1,5 @@
 use Rattle.std.proofs.Common.{ℕ, List, ◌<◌, ◌-◌, ◌^◌, arith, ◌∙◌, refl, sym, subst}
-use Rattle.std.proofs.lemmas.List.{length-drop, take_all}
-use Rattle.std.specs.Io.KnownBytes.{Appends}
+use Rattle.wire.proofs.Common.{length-drop, take_all, Appends}
 use Rattle.wire.proofs.Known.{appends_part, appends_none}
 use Rattle.wire.proofs.writing.write_all.Goals as goal
 

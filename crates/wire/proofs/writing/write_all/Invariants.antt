@@ -1,5 +1,5 @@
 use Rattle.std.proofs.Common.{◌≡◌, ◌≤◌, ◌-◌, length, take}
-use Rattle.std.specs.Io.KnownBytes.{Appends}
+use Rattle.wire.proofs.Common.{Appends}
 use Rattle.wire.proofs.writing.write_all.Given as goal
 
 abbrev pub invariant-writing : goal.invariant-writing

@@ -1,6 +1,5 @@
 use Rattle.std.proofs.Common.{◌∙◌}
-use Rattle.rolls.specs.State.{placed_in_project}
-use Rattle.decoding.specs.View.{drafted}
+use Rattle.decoding.proofs.Common.{placed_in_project, drafted}
 use Rattle.decoding.proofs.EachWithin.{goes_on, is_over}
 use Rattle.decoding.proofs.draft.PartialOffice.are_projects_within.Goals as goal
 

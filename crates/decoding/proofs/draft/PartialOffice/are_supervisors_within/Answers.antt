@@ -1,6 +1,5 @@
 use Rattle.std.proofs.Common.{◌∙◌}
-use Rattle.rolls.specs.State.{placed_with_supervisor}
-use Rattle.decoding.specs.View.{drafted}
+use Rattle.decoding.proofs.Common.{placed_with_supervisor, drafted}
 use Rattle.decoding.proofs.EachWithin.{goes_on, is_over}
 use Rattle.decoding.proofs.draft.PartialOffice.are_supervisors_within.Goals as goal
 

@@ -1,6 +1,5 @@
 use Rattle.std.proofs.Common.{◌≡◌, drop}
-use Rattle.std.specs.List.{list_all}
-use Rattle.decoding.specs.View.{drafted}
+use Rattle.decoding.proofs.Common.{list_all, drafted}
 use Rattle.decoding.proofs.EachWithin.{supervisor_within}
 use Rattle.decoding.proofs.draft.PartialOffice.are_supervisors_within.Given as goal
 

@@ -1,5 +1,5 @@
 use Rattle.std.proofs.Common.{rules}
-use Rattle.decoding.specs.View.{drafted}
+use Rattle.decoding.proofs.Common.{drafted}
 use Rattle.decoding.proofs.EachWithin.{counted_rolls}
 use Rattle.decoding.proofs.draft.PartialOffice.are_within.Goals as goal
 

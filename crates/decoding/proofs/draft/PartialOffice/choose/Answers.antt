@@ -1,7 +1,5 @@
 use Rattle.std.proofs.Common.{sym, ap, ◌∙◌}
-use Rattle.rolls.specs.Roll.{put}
-use Rattle.rolls.specs.State.{round_key}
-use Rattle.decoding.specs.View.{drafted}
+use Rattle.decoding.proofs.Common.{put, round_key, drafted}
 use Rattle.decoding.proofs.Chosen.{chosen_taken}
 use Rattle.decoding.proofs.draft.PartialOffice.choose.Goals as goal
 

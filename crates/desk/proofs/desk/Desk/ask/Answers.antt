@@ -1,6 +1,5 @@
 use Rattle.std.proofs.Common.{◌≡◌, inl, Err, Some, refl, sym, ap, ◌∙◌, rules}
-use Rattle.sqlite.specs.Held.{state}
-use Rattle.rolls.specs.Refusing.{refusal_of}
+use Rattle.desk.proofs.Common.{state, refusal_of}
 use Rattle.desk.proofs.Asked.{idle_saved, named_unstored}
 use Rattle.desk.proofs.desk.Desk.ask.Given as given
 use Rattle.desk.proofs.desk.Desk.ask.Goals as goal

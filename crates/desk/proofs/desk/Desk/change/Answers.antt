@@ -1,12 +1,6 @@
 use Rattle.std.proofs.Common.{◌≡◌, Option, refl, sym, ap, subst, ◌∙◌, rules}
-use Rattle.sqlite.specs.Held.{state}
-use Rattle.rolls.specs.State.{State}
-use Rattle.rolls.specs.Run.{Makes}
-use Rattle.solver.specs.SessionState.{SessionState}
-use Rattle.outside.specs.Layers.{layers}
+use Rattle.desk.proofs.Common.{state, State, Makes, SessionState, layers, effect_of, MayMeet}
 use Rattle.desk.specs.declared.sessions.SessionEffect.{SessionEffect}
-use Rattle.desk.specs.Sessions.{effect_of}
-use Rattle.desk.specs.Inside.Sessions.{MayMeet}
 use Rattle.desk.proofs.Asked.{idle_saved}
 use Rattle.desk.proofs.SessionAfter.{meets}
 use Rattle.desk.proofs.desk.Desk.change.Goals as goal

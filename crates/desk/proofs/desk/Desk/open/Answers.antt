@@ -1,8 +1,6 @@
 use Rattle.std.proofs.Common.{◌≡◌, refl}
-use Rattle.store.specs.declared.fault.StoreFault.{StoreFault}
-use Rattle.store.specs.declared.fault.StoreFault.TheVariants.{Memory, Storage, Damaged}
-use Rattle.rolls.specs.declared.refusal.Refusal.{Refusal}
-use Rattle.rolls.specs.declared.refusal.Refusal.TheVariants.{Memory as TheMemory, Storage as TheStorage, Damaged as TheDamaged}
+use Rattle.desk.proofs.Common.{StoreFault, Memory, Damaged, Refusal, TheMemory, TheStorage, TheDamaged}
+use Rattle.store.specs.declared.fault.StoreFault.TheVariants.{Storage}
 use Rattle.desk.proofs.SavedRows.{opened_stands, was_storage}
 use Rattle.desk.proofs.desk.Desk.open.Goals as goal
 

@@ -1,9 +1,6 @@
 use Rattle.std.proofs.Common.{sym, ap, subst, ◌∙◌, rules}
 use Rattle.rolls.specs.declared.request.Request.TheVariants as request
-use Rattle.rolls.specs.Run.{Makes}
-use Rattle.outside.specs.Layers.{layers}
-use Rattle.rolls.specs.State.{State}
-use Rattle.outside.specs.SessionRounds.{IsSessionOf}
+use Rattle.desk.proofs.Common.{Makes, layers, State, IsSessionOf}
 use Rattle.desk.proofs.desk.Desk.preview.Goals as goal
 
 pub returns-clause-step : goal.returns-clause-step

@@ -1,7 +1,5 @@
 use Rattle.std.proofs.Common.{rules, ◌≡◌, ℕ, ◌+◌, ◌≤◌, List, [], ◌∷◌, length, vec_len, arith, refl, ap}
-use Rattle.std.specs.Vec.{vec_capacity}
-use Rattle.sqlite.specs.Held.{state}
-use Rattle.rolls.specs.declared.request.Request.{Request}
+use Rattle.desk.proofs.Common.{vec_capacity, state, Request}
 use Rattle.desk.proofs.Runs.{run_all, run_on_all, one_more, one_more_on, crash_more, still_shut}
 use Rattle.desk.proofs.desk.Desk.run.Goals as goal
 

@@ -1,9 +1,5 @@
 use Rattle.std.proofs.Common.{◌+◌, ◌≤◌, length, vec_len, IsTrue}
-use Rattle.std.specs.Vec.{vec_capacity}
-use Rattle.sqlite.specs.State.{HasCleanDisk, Survives}
-use Rattle.sqlite.specs.Held.{state}
-use Rattle.tables.specs.Steps.{MayRecoverTo}
-use Rattle.desk.specs.Keeping.{Begins, Keeps, StandsForOne}
+use Rattle.desk.proofs.Common.{vec_capacity, HasCleanDisk, Survives, state, MayRecoverTo, Begins, Keeps, StandsForOne}
 use Rattle.desk.proofs.Runs.{HasRun, HasRunOn}
 use Rattle.desk.proofs.desk.Desk.run.Given as goal
 

@@ -1,6 +1,6 @@
 use Rattle.std.proofs.Common.{Some, sym, ap, ◌∙◌}
 use Rattle.std.specs.Option.{option_map}
-use Rattle.solver.specs.SessionState.{SessionState}
+use Rattle.desk.proofs.Common.{SessionState}
 use Rattle.desk.proofs.desk.Desk.session_steps.Goals as goal
 
 pub returns-in-Some : goal.returns-in-Some

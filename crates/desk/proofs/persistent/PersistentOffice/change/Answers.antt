@@ -1,17 +1,6 @@
 use Rattle.std.proofs.Common.{◌≡◌, inl, inr, Result, Err, None, refl, ap, subst, ◌∙◌, rules}
-use Rattle.rolls.specs.State.{State}
-use Rattle.rolls.specs.Rows.{Transforms}
-use Rattle.rolls.specs.Run.{Makes, refusal}
-use Rattle.outside.specs.Layers.{layers}
+use Rattle.desk.proofs.Common.{State, Transforms, Makes, refusal, layers, state, Seen, IsCaused, IsHinderedAmong, Request, Done, Storage, CarriesOut}
 use Rattle.outside.specs.Changes.{MayChange}
-use Rattle.sqlite.specs.Held.{state}
-use Rattle.sqlite.specs.State.{State as Seen}
-use Rattle.tables.specs.Causes.{IsCaused}
-use Rattle.store.specs.Causes.{IsHinderedAmong}
-use Rattle.rolls.specs.declared.request.Request.{Request}
-use Rattle.rolls.specs.declared.request.Done.{Done}
-use Rattle.rolls.specs.declared.refusal.Refusal.TheVariants.{Storage}
-use Rattle.desk.specs.Keeping.{CarriesOut}
 use Rattle.desk.specs.Causes.{IsHinderedToAsk}
 use Rattle.desk.proofs.Asked.{idle_saved}
 use Rattle.desk.proofs.SavedRows.{call_carried}

@@ -1,22 +1,7 @@
 use Rattle.std.proofs.Common.{◌≡◌, List, Err, Result, IsTrue, refl, sym, ap, subst}
-use Rattle.sqlite.specs.State.{State as Seen, Survives}
-use Rattle.sqlite.specs.Held.{state}
-use Rattle.tables.specs.Steps.{MayRecoverTo}
-use Rattle.row_model.specs.declared.row.Change.{Change}
-use Rattle.rolls.specs.State.{State}
-use Rattle.rolls.specs.Rows.{Transforms}
-use Rattle.rolls.specs.declared.refusal.Refusal.{Refusal}
-use Rattle.rolls.specs.declared.refusal.Refusal.TheVariants.{Storage as TheStorage}
-use Rattle.rolls.specs.declared.request.Reply.{Reply}
-use Rattle.store.specs.declared.fault.StoreFault.{StoreFault}
+use Rattle.desk.proofs.Common.{Seen, Survives, state, MayRecoverTo, Change, State, Transforms, Refusal, TheStorage, Reply, StoreFault, AreActedOn, Saves, HasCleanDisk, TheDamaged, TheMemory, Damaged, Memory, IsHinderedAmong, IsStopped}
 use Rattle.store.specs.declared.fault.StoreFault.TheVariants.{Storage}
-use Rattle.store.specs.Saving.{AreActedOn, Saves}
 use Rattle.desk.proofs.SavedRows.{saved_keeps, kept_keeps}
-use Rattle.sqlite.specs.State.{HasCleanDisk}
-use Rattle.rolls.specs.declared.refusal.Refusal.TheVariants.{Damaged as TheDamaged, Memory as TheMemory}
-use Rattle.store.specs.declared.fault.StoreFault.TheVariants.{Damaged, Memory}
-use Rattle.store.specs.Causes.{IsHinderedAmong}
-use Rattle.tables.specs.Causes.{IsStopped}
 use Rattle.desk.proofs.SavedRows.{was_storage}
 use Rattle.desk.proofs.persistent.PersistentOffice.exchange.Goals as goal
 

@@ -1,9 +1,5 @@
 use Rattle.std.proofs.Common.{◌≡◌, true, sym, subst, ◌∙◌}
-use Rattle.rolls.specs.State.{State}
-use Rattle.rolls.specs.declared.request.Plain.{Plain}
-use Rattle.rolls.specs.declared.request.Plain.TheVariants.{PutSupervisor}
-use Rattle.rolls.specs.Reads.{is_read}
-use Rattle.rolls.specs.Stepping.{after_plain}
+use Rattle.desk.proofs.Common.{State, Plain, PutSupervisor, is_read, after_plain}
 use Rattle.desk.specs.Inside.Keeping.{AreKept}
 use Rattle.desk.proofs.persistent.PersistentOffice.read.Goals as goal
 

@@ -1,9 +1,5 @@
 use Rattle.std.proofs.Common.{◌≡◌, ℕ, List, length, arith, map, sym, ap, ◌∙◌}
-use denote.Ref.{Bor}
-use Rattle.std.proofs.lemmas.List.{length-map}
-use Rattle.std.proofs.lemmas.Result.{IfOk-weaker}
-use Rattle.intake.specs.Inside.PartialRound.{draft_of}
-use Rattle.intake.specs.Inside.Entries.{AddsEntry, AddsLine, letter_of, line_of}
+use Rattle.intake.proofs.Common.{Bor, length-map, IfOk-weaker, draft_of, AddsEntry, AddsLine, letter_of, line_of}
 use Rattle.intake.proofs.LineInDraft.{section_line, no_turn, no_line, moved_line, fields_after}
 use Rattle.intake.proofs.Lists.{first_field}
 use Rattle.intake.proofs.draft.PartialRound.add.Goals as goal

@@ -1,5 +1,5 @@
 use Rattle.std.proofs.Common.{◌≡◌, [], ◌∷◌, get_or, codes, rules, refl, ap, ◌∙◌}
-use Rattle.spa.specs.declared.aim.Aim.TheVariants.{Greedy, Generous}
+use Rattle.intake.proofs.Common.{Greedy, Generous}
 use Rattle.intake.proofs.RowInDraft.{one_field}
 use Rattle.intake.proofs.Lists.{blank}
 use Rattle.intake.proofs.draft.PartialRound.add_aim.Goals as goal

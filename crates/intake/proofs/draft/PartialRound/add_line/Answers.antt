@@ -1,8 +1,5 @@
 use Rattle.std.proofs.Common.{ℕ, List, All, map, sym, ap, subst, ◌∙◌}
-use denote.Ref.{Bor}
-use Rattle.std.proofs.lemmas.Result.{IfOk-weaker}
-use Rattle.intake.specs.Inside.PartialRound.{draft_of, IsField}
-use Rattle.intake.specs.Inside.Entries.{AddsLine, line_of}
+use Rattle.intake.proofs.Common.{Bor, IfOk-weaker, draft_of, IsField, AddsLine, line_of}
 use Rattle.intake.proofs.Pieces.{pieces_free, line_back}
 use Rattle.intake.proofs.draft.PartialRound.add_line.Goals as goal
 

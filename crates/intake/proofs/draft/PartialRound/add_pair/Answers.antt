@@ -1,10 +1,6 @@
 use Rattle.std.proofs.Common.{◌≡◌, ℕ, ◌+◌, ◌-◌, ◌<◌, List, [], ◌∷◌, ◌++◌, length, map, get_or, slice_get, Option, Some, refl, sym, ap, subst, ◌∙◌, arith, rules}
-use Rattle.std.proofs.lemmas.List.{length-map}
-use Rattle.spa.specs.Codes.{code_at}
+use Rattle.intake.proofs.Common.{length-map, code_at, Student, IsRoll, choice_code}
 use Rattle.intake.proofs.Order.{get_found}
-use Rattle.spa.specs.Instance.{Student}
-use Rattle.intake.specs.Parts.{IsRoll}
-use Rattle.intake.specs.Lines.{choice_code}
 use Rattle.intake.proofs.RowInDraft.{two_fields, parts}
 use Rattle.intake.proofs.Lists.{blank}
 use Rattle.intake.proofs.Rolls.{student_keys}

@@ -1,9 +1,5 @@
 use Rattle.std.proofs.Common.{◌≡◌, ℕ, List, [], ◌∷◌, length, map, get_or, slice_get, Some, decimal, sym, ap, subst, ◌∙◌, arith}
-use denote.Ref.{Bor}
-use Rattle.std.proofs.lemmas.List.{length-map}
-use Rattle.std.proofs.lemmas.Result.{err_from_is_err_and}
-use Rattle.spa.specs.Instance.{supervisors_of}
-use Rattle.intake.specs.Parts.{Rise, IsRoll}
+use Rattle.intake.proofs.Common.{Bor, length-map, err_from_is_err_and, supervisors_of, Rise, IsRoll}
 use Rattle.intake.proofs.RowInDraft.{three_fields, project_added}
 use Rattle.intake.proofs.Lists.{blank, first_field}
 use Rattle.intake.proofs.Order.{get_found, key_at}

@@ -1,7 +1,5 @@
 use Rattle.std.proofs.Common.{◌≡◌, ℕ, List, ◌∷◌, map, sym, ap, subst, ◌∙◌}
-use denote.Ref.{Bor}
-use Rattle.std.proofs.lemmas.List.{map_push}
-use Rattle.intake.specs.Parts.{Rise, IsRoll}
+use Rattle.intake.proofs.Common.{Bor, map_push, Rise, IsRoll}
 use Rattle.intake.proofs.RowInDraft.{student_added}
 use Rattle.intake.proofs.Lists.{first_field, other_fields}
 use Rattle.intake.proofs.Rolls.{student_keys, project_keys, comes_moved, sound_moved}

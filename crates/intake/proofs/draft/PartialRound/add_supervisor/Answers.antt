@@ -1,8 +1,5 @@
 use Rattle.std.proofs.Common.{◌≡◌, ℕ, List, [], ◌∷◌, length, map, get_or, decimal, sym, ap, subst, ◌∙◌, arith}
-use denote.Ref.{Bor}
-use Rattle.std.proofs.lemmas.List.{length-map}
-use Rattle.std.proofs.lemmas.Result.{err_from_is_err_and}
-use Rattle.intake.specs.Parts.{Rise}
+use Rattle.intake.proofs.Common.{Bor, length-map, err_from_is_err_and, Rise}
 use Rattle.intake.proofs.RowInDraft.{two_fields, supervisor_added}
 use Rattle.intake.proofs.Lists.{blank, first_field}
 use Rattle.intake.proofs.Rolls.{supervisor_keys, comes_moved}

@@ -1,7 +1,5 @@
 use Rattle.std.proofs.Common.{◌≡◌, ℕ, ◌++◌, ◌-◌, length, replicate, None, sym, ap, subst, ◌∙◌, arith, rules}
-use Rattle.intake.specs.Parts.{IsRoundParts}
-use Rattle.intake.specs.Lines.{round_lines}
-use Rattle.intake.specs.Inside.PartialRound.{draft_of}
+use Rattle.intake.proofs.Common.{IsRoundParts, round_lines, draft_of}
 use Rattle.intake.proofs.Rolls.{student_count}
 use Rattle.intake.proofs.Ends.{whole_parts, places_few, no_fault, placed_lines, same_parts}
 use Rattle.intake.proofs.draft.PartialRound.finish.Goals as goal

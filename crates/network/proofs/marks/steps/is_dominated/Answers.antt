@@ -1,6 +1,5 @@
 use Rattle.std.proofs.Common.{rules, ◌≡◌, false, inl, inr, sym, ◌∙◌}
-use Rattle.spa.specs.Laws.{AtMost}
-use Rattle.network.specs.Inside.Marks.{potential}
+use Rattle.network.proofs.Common.{AtMost, potential}
 use Rattle.network.proofs.Group.{at_most_trans}
 use Rattle.network.proofs.marks.steps.is_dominated.Goals as goal
 

@@ -1,5 +1,5 @@
 use Rattle.std.proofs.Common.{◌≡◌, [], take, drop}
-use Rattle.rolls.specs.Refusing.{first, choice_tests}
+use Rattle.office.proofs.Common.{first, choice_tests}
 use Rattle.office.proofs.office.Office.choice_refusal.Given as goal
 
 abbrev pub invariant-loop-place : goal.invariant-loop-place

@@ -1,17 +1,9 @@
 use Rattle.std.proofs.Common.{◌≡◌, sym, ap, ◌∙◌, subst}
-use Rattle.std.specs.Prelude.{count_by, ◌==◌, ◌&&◌, ◌+◌, false}
+use Rattle.office.proofs.Common.{count_by, ◌==◌, ◌&&◌, ◌+◌, false, Done, put_all, State, placement_key, last_round, lists_of, IsFit, by_rank, round_instance, IsClosed, state_of}
 use Rattle.rolls.specs.declared.request.Reply.TheVariants as reply
-use Rattle.rolls.specs.declared.request.Done.{Done}
-use Rattle.rolls.specs.Roll.{put_all}
-use Rattle.rolls.specs.State.{State, placement_key, last_round, lists_of}
-use Rattle.rolls.specs.Fit.{IsFit}
-use Rattle.rolls.specs.Stepping.{by_rank}
-use Rattle.rolls.specs.Instances.{round_instance}
-use Rattle.rolls.specs.Answers.{IsClosed}
 use Rattle.spa.specs.Coded.{taken}
 use Rattle.closing.specs.Places.{placed_by}
 use Rattle.closing.specs.Changes.{after_placing, closing_changes, placed_reply}
-use Rattle.office.specs.View.{state_of}
 use Rattle.office.proofs.Made.{last_put}
 use Rattle.office.proofs.office.Office.close.Goals as goal
 use Rattle.office.proofs.office.Office.close.Goals.{Joined-self-placements}

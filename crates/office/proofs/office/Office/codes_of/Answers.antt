@@ -1,10 +1,5 @@
 use Rattle.std.proofs.Common.{◌++◌, [], ◌∷◌, IsTrue, take, sym, ap, subst, ◌∙◌}
-use Rattle.std.specs.List.{AllByRecursion}
-use Rattle.std.specs.Prelude.{option_copied}
-use Rattle.std.proofs.lemmas.List.{take_more, drop_more}
-use Rattle.rolls.specs.State.{has_project, project_key}
-use Rattle.rolls.specs.Roll.{Key}
-use Rattle.rolls.proofs.Found.{found_key}
+use Rattle.office.proofs.Common.{AllByRecursion, option_copied, take_more, drop_more, has_project, project_key, Key, found_key}
 use Rattle.office.proofs.office.Office.codes_of.Goals as goal
 
 pub loop-text-preserved : goal.loop-text-preserved

@@ -1,6 +1,5 @@
 use Rattle.std.proofs.Common.{◌≡◌, IsTrue, drop, take}
-use Rattle.std.specs.List.{AllByRecursion}
-use Rattle.rolls.specs.State.{has_project}
+use Rattle.office.proofs.Common.{AllByRecursion, has_project}
 use Rattle.office.proofs.office.Office.codes_of.Given as goal
 
 abbrev pub invariant-loop-text : goal.invariant-loop-text

@@ -1,14 +1,6 @@
 use Rattle.std.proofs.Common.{◌≡◌, List, [], ◌∷◌, refl, ap, ◌∙◌}
-use Rattle.rolls.specs.declared.rounds.Round.{Round}
-use Rattle.rolls.specs.declared.rounds.Listed.{Listed}
-use Rattle.rolls.specs.Roll.{put, take_out}
-use Rattle.rolls.specs.State.{list_key, round_key}
-use Rattle.rolls.specs.Stepping.{after_plain}
-use Rattle.row_model.specs.declared.row.Change.TheVariants.{Remove}
-use Rattle.rolls.specs.Making.{list_part}
-use Rattle.office.specs.View.{state_of}
+use Rattle.office.proofs.Common.{Round, Listed, put, take_out, list_key, round_key, after_plain, Remove, list_part, state_of, DropList}
 use Rattle.office.proofs.Made.{made_fit, made_done, last_put}
-use Rattle.rolls.specs.declared.request.Plain.TheVariants.{DropList}
 use Rattle.office.proofs.office.Office.drop_list.Goals.{After-drop-student-inside-2}
 use Rattle.office.proofs.office.Office.drop_list.Goals as goal
 

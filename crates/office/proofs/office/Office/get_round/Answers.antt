@@ -1,13 +1,6 @@
 use Rattle.std.proofs.Common.{◌≡◌, ◌+◌, ◌==◌, ◌&&◌, List, length, count_by, [], false, Option, arith, Some, sym, ap, ◌∙◌}
-use Rattle.std.specs.Option.{option_map_or}
-use Rattle.std.specs.Prelude.{option_copied}
-use Rattle.rolls.specs.declared.rounds.Placement.{Placement}
-use Rattle.rolls.specs.declared.rounds.Listed.{Listed}
-use Rattle.rolls.specs.declared.rounds.Round.{Round}
+use Rattle.office.proofs.Common.{option_map_or, option_copied, Placement, Listed, Round, by_rank, State, round_of, placed_in_round, placed_at_rank, state_of}
 use Rattle.rolls.specs.declared.request.Reply.TheVariants as reply
-use Rattle.rolls.specs.Stepping.{by_rank}
-use Rattle.rolls.specs.State.{State, round_of, placed_in_round, placed_at_rank}
-use Rattle.office.specs.View.{state_of}
 use Rattle.office.proofs.Few.{placements_few, counted_few, lists_few}
 use Rattle.office.proofs.office.Office.get_round.Goals as goal
 use Rattle.office.proofs.office.Office.get_round.Goals.{After-entries}

@@ -1,10 +1,5 @@
 use Rattle.std.proofs.Common.{rules, ◌≡◌, None, Some, Ok, inl, inr, sym, subst, ◌∙◌, refl}
-use Rattle.rolls.specs.State.{State}
-use Rattle.rolls.specs.State.{kept_rows}
-use Rattle.rolls.specs.Refusing.{first, import_tests}
-use Rattle.rolls.specs.Importing.{rows_refusal}
-use Rattle.rolls.specs.Answers.{Imports}
-use Rattle.change_laws.specs.Changes.{import_changes}
+use Rattle.office.proofs.Common.{State, kept_rows, first, import_tests, rows_refusal, Imports, import_changes}
 use Rattle.office.proofs.ImportRows.{kept_answered, kept_unchanged, rows_decide}
 use Rattle.office.proofs.office.Office.import.Goals as goal
 

@@ -1,11 +1,6 @@
 use Rattle.std.proofs.Common.{◌≡◌, ℕ, List, ◌∷◌, [], ◌++◌, length, sym, ap, subst, ◌∙◌}
-use Rattle.std.specs.Prelude.{◌&&◌, not, nat_le, false}
-use Rattle.rolls.specs.declared.TheConstants.{MAX_IMPORTS}
-use Rattle.rolls.specs.declared.import.Import.{Import}
+use Rattle.office.proofs.Common.{◌&&◌, not, nat_le, false, MAX_IMPORTS, Import, Add, State, has_import, with_import}
 use Rattle.rolls.specs.declared.request.Reply.TheVariants as reply
-use Rattle.row_model.specs.declared.row.Change.TheVariants.{Add}
-use Rattle.rolls.specs.State.{State, has_import}
-use Rattle.rolls.specs.Importing.{with_import}
 use Rattle.office.proofs.ImportRows.{import_added, still_room, import_made, new_changes}
 use Rattle.office.proofs.office.Office.import_new.Goals.{After-drop-id-inside-2}
 use Rattle.office.proofs.office.Office.import_new.Goals as goal

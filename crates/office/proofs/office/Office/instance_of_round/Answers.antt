@@ -1,8 +1,6 @@
 use Rattle.std.proofs.Common.{◌≡◌, ℕ, Some, subst}
-use Rattle.std.specs.Prelude.{IfOk}
+use Rattle.office.proofs.Common.{IfOk, State, instance_left}
 use Rattle.spa.specs.Named.{instance_of}
-use Rattle.rolls.specs.State.{State}
-use Rattle.rolls.specs.Instances.{instance_left}
 use Rattle.rolls.specs.Counted.{count_in, count_with}
 use Rattle.office.proofs.office.Office.instance_of_round.Goals as goal
 

@@ -1,7 +1,5 @@
 use Rattle.std.proofs.Common.{List, ℕ, not, sym, ap, ◌∙◌}
-use Rattle.std.specs.Prelude.{option_copied}
-use Rattle.std.specs.Str.{bytes_eq}
-use Rattle.rolls.specs.State.{State, project_of}
+use Rattle.office.proofs.Common.{option_copied, bytes_eq, State, project_of}
 use Rattle.office.proofs.office.Office.is_moved.Goals as goal
 
 pub returns-in-Some : goal.returns-in-Some

@@ -1,11 +1,6 @@
 use Rattle.std.proofs.Common.{◌≡◌, sym, subst}
-use Rattle.std.specs.Prelude.{◌&&◌, not, nat_le, false, List, length}
-use Rattle.rolls.specs.declared.TheConstants.{MAX_IMPORTS}
-use Rattle.rolls.specs.declared.import.Import.{Import}
-use Rattle.rolls.specs.State.{State, has_import}
-use Rattle.rolls.specs.Fit.{IsFit}
+use Rattle.office.proofs.Common.{◌&&◌, not, nat_le, false, List, length, MAX_IMPORTS, Import, State, has_import, IsFit, state_of}
 use Rattle.change_laws.proofs.FitAfterPut.{fit_with_import}
-use Rattle.office.specs.View.{state_of}
 use Rattle.office.proofs.office.Office.keep.Goals as goal
 
 pub invariant_of-self : goal.invariant_of-self

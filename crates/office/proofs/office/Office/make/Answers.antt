@@ -1,7 +1,5 @@
 use Rattle.std.proofs.Common.{◌≡◌, Some, None, refl, sym, ap, subst, ◌∙◌}
-use Rattle.rolls.specs.declared.request.Plain.{Plain}
-use Rattle.rolls.specs.Refusing.{plain_refusal}
-use Rattle.rolls.specs.declared.request.Plain.TheVariants.{GetSupervisor, GetProject, GetStudent, GetRound}
+use Rattle.office.proofs.Common.{Plain, plain_refusal, GetSupervisor, GetProject, GetStudent, GetRound}
 use Rattle.office.proofs.ReadAnswers.{read_named}
 use Rattle.office.proofs.office.Office.make.Goals as goal
 

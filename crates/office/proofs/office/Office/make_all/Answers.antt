@@ -1,6 +1,6 @@
 use Rattle.std.proofs.Common.{rules, ℕ, ◌+◌, List, length, Some, inr, sym, ap, subst, ◌∙◌, arith}
 use Rattle.rolls.specs.declared.refusal.Refusal.TheVariants as no
-use Rattle.row_model.specs.declared.row.Change.{Change}
+use Rattle.office.proofs.Common.{Change}
 use Rattle.office.proofs.ImportRows.{IsUnderWay, none_made, next_refused, next_made, all_made}
 use Rattle.office.proofs.office.Office.make_all.Goals as goal
 

@@ -1,11 +1,6 @@
 use Rattle.std.proofs.Common.{◌≡◌, ℕ, ◌+◌, true, [], length, Some, ap, ◌∙◌}
 use Rattle.rolls.specs.declared.request.Reply.TheVariants as reply
-use Rattle.rolls.specs.declared.request.Plain.TheVariants.{OpenRound}
-use Rattle.rolls.specs.Roll.{put}
-use Rattle.rolls.specs.State.{State, aim_key, round_key}
-use Rattle.rolls.specs.Stepping.{after_plain}
-use Rattle.rolls.specs.Making.{opening_changes}
-use Rattle.office.specs.View.{state_of}
+use Rattle.office.proofs.Common.{OpenRound, put, State, aim_key, round_key, after_plain, opening_changes, state_of}
 use Rattle.office.proofs.Made.{made_fit, made_done}
 use Rattle.office.proofs.office.Office.open_round.Goals as goal
 use Rattle.office.proofs.office.Office.open_round.Goals.{Joined-self-aims}

@@ -1,8 +1,5 @@
 use Rattle.std.proofs.Common.{List, count_by, arith, ap, ◌∙◌}
-use Rattle.std.specs.Str.{bytes_eq}
-use Rattle.rolls.specs.declared.rounds.Placement.{Placement}
-use Rattle.rolls.specs.State.{State}
-use Rattle.office.specs.View.{state_of}
+use Rattle.office.proofs.Common.{bytes_eq, Placement, State, state_of}
 use Rattle.office.proofs.Few.{counted_few}
 use Rattle.office.proofs.office.Office.placed_in_project.Goals as goal
 

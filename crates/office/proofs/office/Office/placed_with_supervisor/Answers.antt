@@ -1,7 +1,5 @@
 use Rattle.std.proofs.Common.{List, count_by, arith, ap, ◌∙◌}
-use Rattle.rolls.specs.declared.rounds.Placement.{Placement}
-use Rattle.rolls.specs.State.{State, is_offered_by}
-use Rattle.office.specs.View.{state_of}
+use Rattle.office.proofs.Common.{Placement, State, is_offered_by, state_of}
 use Rattle.office.proofs.Few.{counted_few}
 use Rattle.office.proofs.office.Office.placed_with_supervisor.Goals as goal
 

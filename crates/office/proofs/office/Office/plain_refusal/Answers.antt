@@ -1,6 +1,5 @@
 use Rattle.std.proofs.Common.{sym, ap, ◌∙◌}
-use Rattle.rolls.specs.declared.request.Plain.TheVariants.{PutSupervisor, PutProject}
-use Rattle.rolls.specs.Refusing.{plain_refusal}
+use Rattle.office.proofs.Common.{PutSupervisor, PutProject, plain_refusal}
 use Rattle.office.proofs.office.Office.plain_refusal.Goals as goal
 
 pub returns-in-PutSupervisor : goal.returns-in-PutSupervisor

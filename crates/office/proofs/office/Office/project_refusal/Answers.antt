@@ -1,10 +1,7 @@
 use Rattle.std.proofs.Common.{◌≡◌, Bool, true, false, not, Option, Some, refl, sym, ap, ◌∙◌}
-use Rattle.std.specs.Prelude.{if◌then◌else◌, is_some}
+use Rattle.office.proofs.Common.{if◌then◌else◌, is_some, MAX_QUOTA, Refusal, State, supervisor_of}
 use Rattle.std.proofs.lemmas.Bool.{le-ltb}
-use Rattle.spa.specs.declared.TheConstants.{MAX_QUOTA}
-use Rattle.rolls.specs.declared.refusal.Refusal.{Refusal}
 use Rattle.rolls.specs.declared.refusal.Refusal.TheVariants as no
-use Rattle.rolls.specs.State.{State, supervisor_of}
 use Rattle.office.proofs.Known.{lent_is_there}
 use Rattle.office.proofs.office.Office.project_refusal.Goals as goal
 

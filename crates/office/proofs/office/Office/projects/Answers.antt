@@ -1,5 +1,5 @@
 use Rattle.std.proofs.Common.{ap, ◌∙◌}
-use Rattle.rolls.specs.State.{State}
+use Rattle.office.proofs.Common.{State}
 use Rattle.office.proofs.office.Office.projects.Goals as goal
 
 pub returns : goal.returns

@@ -1,17 +1,7 @@
 use Rattle.std.proofs.Common.{◌≡◌, ℕ, length, true, List, is_some, arith, refl, sym, ap, subst, ◌∙◌}
-use Rattle.std.specs.Prelude.{option_copied}
-use Rattle.std.specs.List.{AllByRecursion}
-use Rattle.rolls.specs.declared.rounds.Round.{Round}
-use Rattle.rolls.specs.declared.rounds.Listed.{Listed}
-use Rattle.rolls.specs.Roll.{Key, put}
-use Rattle.rolls.specs.State.{State, has_project, list_key, round_key, student_key, last_round, has_list}
-use Rattle.rolls.specs.Stepping.{after_plain}
-use Rattle.rolls.proofs.Found.{found_key}
-use Rattle.rolls.specs.Making.{list_changes}
-use Rattle.office.specs.View.{state_of}
+use Rattle.office.proofs.Common.{option_copied, AllByRecursion, Round, Listed, Key, put, State, has_project, list_key, round_key, student_key, last_round, has_list, after_plain, found_key, list_changes, state_of, PutList}
 use Rattle.office.proofs.Known.{lent_is_there}
 use Rattle.office.proofs.Made.{made_fit, made_done, last_put}
-use Rattle.rolls.specs.declared.request.Plain.TheVariants.{PutList}
 use Rattle.office.proofs.ListPuts.{list_few, list_known}
 use Rattle.office.proofs.office.Office.put_list.Goals as goal
 use Rattle.office.proofs.office.Office.put_list.Goals.{After-drop-student-inside-2}

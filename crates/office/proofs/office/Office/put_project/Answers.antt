@@ -1,13 +1,6 @@
 use Rattle.std.proofs.Common.{◌≡◌, List, [], ◌∷◌, is_some, refl, ap, ◌∙◌}
 use Rattle.rolls.specs.declared.entries.Project.{Project}
-use Rattle.row_model.specs.declared.table.Table.TheVariants.{Project as ProjectTable}
-use Rattle.rolls.specs.declared.request.Plain.TheVariants.{PutProject}
-use Rattle.rolls.specs.Roll.{put}
-use Rattle.rolls.specs.State.{State, project_key, has_project}
-use Rattle.rolls.specs.Stepping.{after_plain}
-use Rattle.rolls.specs.Making.{put_or_added}
-use Rattle.rolls.specs.Rows.{project_cells}
-use Rattle.office.specs.View.{state_of}
+use Rattle.office.proofs.Common.{ProjectTable, PutProject, put, State, project_key, has_project, after_plain, put_or_added, project_cells, state_of}
 use Rattle.office.proofs.Known.{lent_is_there}
 use Rattle.office.proofs.Made.{made_fit, made_done}
 use Rattle.office.proofs.office.Office.put_project.Goals as goal

@@ -1,13 +1,6 @@
 use Rattle.std.proofs.Common.{◌≡◌, List, [], ◌∷◌, is_some, refl, ap, ◌∙◌}
 use Rattle.rolls.specs.declared.entries.Student.{Student}
-use Rattle.row_model.specs.declared.table.Table.TheVariants.{Student as StudentTable}
-use Rattle.rolls.specs.declared.request.Plain.TheVariants.{PutStudent}
-use Rattle.rolls.specs.Roll.{put}
-use Rattle.rolls.specs.State.{State, student_key, has_student}
-use Rattle.rolls.specs.Stepping.{after_plain}
-use Rattle.rolls.specs.Making.{put_or_added}
-use Rattle.rolls.specs.Rows.{student_cells}
-use Rattle.office.specs.View.{state_of}
+use Rattle.office.proofs.Common.{StudentTable, PutStudent, put, State, student_key, has_student, after_plain, put_or_added, student_cells, state_of}
 use Rattle.office.proofs.Known.{lent_is_there}
 use Rattle.office.proofs.Made.{made_fit, made_done}
 use Rattle.office.proofs.office.Office.put_student.Goals as goal

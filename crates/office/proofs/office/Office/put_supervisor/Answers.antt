@@ -1,13 +1,6 @@
 use Rattle.std.proofs.Common.{◌≡◌, List, [], ◌∷◌, is_some, refl, ap, ◌∙◌}
 use Rattle.rolls.specs.declared.entries.Supervisor.{Supervisor}
-use Rattle.row_model.specs.declared.table.Table.TheVariants.{Supervisor as SupervisorTable}
-use Rattle.rolls.specs.declared.request.Plain.TheVariants.{PutSupervisor}
-use Rattle.rolls.specs.Roll.{put}
-use Rattle.rolls.specs.State.{State, supervisor_key, has_supervisor}
-use Rattle.rolls.specs.Making.{put_or_added}
-use Rattle.rolls.specs.Rows.{supervisor_cells}
-use Rattle.rolls.specs.Stepping.{after_plain}
-use Rattle.office.specs.View.{state_of}
+use Rattle.office.proofs.Common.{SupervisorTable, PutSupervisor, put, State, supervisor_key, has_supervisor, put_or_added, supervisor_cells, after_plain, state_of}
 use Rattle.office.proofs.Known.{lent_is_there}
 use Rattle.office.proofs.Made.{made_fit, made_done}
 use Rattle.office.proofs.office.Office.put_supervisor.Goals as goal

@@ -1,16 +1,7 @@
 use Rattle.std.proofs.Common.{◌≡◌, ◌==◌, true, not, List, Some, sym, ap, subst, ◌∙◌}
-use Rattle.rolls.specs.declared.rounds.Round.{Round}
-use Rattle.rolls.specs.declared.rounds.Placement.{Placement}
+use Rattle.office.proofs.Common.{Round, Placement, ReopenRound, rises, State, placement_key, last_round, IsFit, after_plain, reopening_changes, kept_placements, state_of}
 use Rattle.rolls.specs.declared.request.Reply.TheVariants as reply
-use Rattle.rolls.specs.declared.request.Plain.TheVariants.{ReopenRound}
-use Rattle.rolls.specs.Roll.{rises}
-use Rattle.rolls.specs.State.{State, placement_key, last_round}
-use Rattle.rolls.specs.Fit.{IsFit}
-use Rattle.rolls.specs.Stepping.{after_plain}
 use Rattle.rolls.proofs.Places.{rises-filter}
-use Rattle.rolls.specs.Making.{reopening_changes}
-use Rattle.change_laws.specs.Changes.{kept_placements}
-use Rattle.office.specs.View.{state_of}
 use Rattle.office.proofs.Made.{made_fit, made_done, last_put}
 use Rattle.office.proofs.ListPuts.{reopening_found}
 use Rattle.office.proofs.office.Office.reopen_round.Goals as goal

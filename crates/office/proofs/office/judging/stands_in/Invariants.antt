@@ -1,6 +1,5 @@
 use Rattle.std.proofs.Common.{◌≡◌, drop}
-use Rattle.std.specs.List.{list_any}
-use Rattle.std.specs.Str.{bytes_eq}
+use Rattle.office.proofs.Common.{list_any, bytes_eq}
 use Rattle.office.proofs.office.judging.stands_in.Given as goal
 
 abbrev pub invariant-loop-other : goal.invariant-loop-other

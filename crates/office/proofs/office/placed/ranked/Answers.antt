@@ -1,5 +1,5 @@
 use Rattle.std.proofs.Common.{ℕ, ◌+◌, count_by, ◌==◌, ◌&&◌, ap, ◌∙◌, arith}
-use Rattle.spa.specs.declared.TheConstants.{RANKS}
+use Rattle.office.proofs.Common.{RANKS}
 use Rattle.rolls.proofs.Numbered.{listed}
 use Rattle.office.proofs.office.placed.ranked.Goals as goal
 

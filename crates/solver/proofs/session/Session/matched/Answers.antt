@@ -1,5 +1,4 @@
-use Rattle.spa.specs.Matched.{pairs}
-use Rattle.network.specs.Seen.{shape_of}
+use Rattle.solver.proofs.Common.{pairs, shape_of}
 use Rattle.solver.proofs.session.Session.matched.Goals as goal
 
 pub returns : goal.returns

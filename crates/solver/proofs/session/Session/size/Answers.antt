@@ -1,6 +1,5 @@
 use Rattle.std.proofs.Common.{◌∙◌}
-use Rattle.spa.specs.Matched.{pairs}
-use Rattle.network.specs.Seen.{shape_of}
+use Rattle.solver.proofs.Common.{pairs, shape_of}
 use Rattle.solver.proofs.Alike.{same_size}
 use Rattle.solver.proofs.session.Session.size.Goals as goal
 

@@ -1,4 +1,4 @@
-use Rattle.spa.specs.declared.TheConstants.{MAX_PROJECTS, MAX_SUPERVISORS}
+use Rattle.spa.proofs.Common.{MAX_PROJECTS, MAX_SUPERVISORS}
 use Rattle.spa.proofs.OneMore.{none_yet}
 use Rattle.spa.proofs.counts.Counts.new.Goals as goal
 

@@ -1,6 +1,5 @@
 use Rattle.std.proofs.Common.{◌≡◌, Err, sym, ◌∙◌, rules}
-use Rattle.store.specs.Editions.{latest}
-use Rattle.store.specs.declared.fault.StoreFault.TheVariants.{Damaged}
+use Rattle.store.proofs.Common.{latest, Damaged}
 use Rattle.store.proofs.Standing.{in_latest}
 use Rattle.store.proofs.store.Store.load.Goals as goal
 

@@ -1,12 +1,5 @@
 use Rattle.std.proofs.Common.{◌≡◌, false, OnErr, OnOk, rules, subst}
-use Rattle.sqlite.proofs.StateLemmas.{survives_weaker}
-use Rattle.sqlite.specs.State.{HasCleanDisk, Survives}
-use Rattle.sqlite.specs.Held.{state}
-use Rattle.tables.specs.Causes.{IsCaused}
-use Rattle.tables.specs.Steps.{IsKept, MayRecoverTo}
-use Rattle.store.specs.declared.fault.StoreFault.TheVariants.{Storage}
-use Rattle.store.specs.Causes.{IsHinderedAmong}
-use Rattle.store.specs.Saving.{AreInert, IsSaving, Saves}
+use Rattle.store.proofs.Common.{survives_weaker, HasCleanDisk, Survives, state, IsCaused, IsKept, MayRecoverTo, Storage, IsHinderedAmong, AreInert, IsSaving, Saves}
 use Rattle.store.proofs.ChangesInOrder.{saving_call, saves_left}
 use Rattle.store.proofs.store.Store.save.Goals as goal
 

@@ -1,5 +1,5 @@
 use Rattle.std.proofs.Common.{ap, sym, ◌∙◌}
-use Rattle.wire.specs.Answers.{answer_bytes}
+use Rattle.wire.proofs.Common.{answer_bytes}
 use Rattle.wire.proofs.handling.Answer.as_slice.Goals as goal
 
 pub returns-in-Long : goal.returns-in-Long

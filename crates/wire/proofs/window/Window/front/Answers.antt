@@ -1,5 +1,5 @@
 use Rattle.std.proofs.Common.{◌∙◌, ℕ, List, subst}
-use Rattle.wire.specs.Inside.Judged.{Judges}
+use Rattle.wire.proofs.Common.{Judges}
 use Rattle.wire.proofs.window.Window.front.Goals as goal
 
 pub returns-clause-front : goal.returns-clause-front

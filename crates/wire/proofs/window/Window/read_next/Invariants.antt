@@ -1,6 +1,5 @@
 use Rattle.std.proofs.Common.{◌≡◌, ◌-◌, false, length}
-use Rattle.wire.specs.declared.TheConstants.{MAX_MESSAGE_BYTES}
-use Rattle.wire.specs.Inside.Taken.{Grows}
+use Rattle.wire.proofs.Common.{MAX_MESSAGE_BYTES, Grows}
 use Rattle.wire.proofs.window.Window.read_next.Given as goal
 
 abbrev pub invariant-reading : goal.invariant-reading

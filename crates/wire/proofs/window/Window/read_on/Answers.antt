@@ -1,7 +1,5 @@
 use Rattle.std.proofs.Common.{rules, ◌∙◌, sym, subst, ℕ, List}
-use Rattle.wire.specs.Run.{unread}
-use Rattle.wire.specs.declared.front.Judgement.TheVariants.{Whole, Stop}
-use Rattle.wire.specs.Inside.Judged.{Judges}
+use Rattle.wire.proofs.Common.{unread, Whole, Stop, Judges}
 use Rattle.wire.proofs.ReaderEnd.{still_open}
 use Rattle.wire.proofs.window.Window.read_on.Goals as goal
 

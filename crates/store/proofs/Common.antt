@@ -1,0 +1,65 @@
+-- The names that most proofs here cite, passed on from one place. Declares nothing.
+pub use Rattle.change_laws.proofs.Changes.{after_both, by_table, change_elsewhere, change_here}
+pub use Rattle.editions.specs.Editions.{AreRowsIn, ChangesMigrate, HaveNoLater, RowsMigrate, aims_of, is_old, migrated_rows, migrating_changes, olds, removal_of, renamed, renamed_row, renaming_changes, rows_in_edition}
+pub use Rattle.editions.specs.declared.Edition.{Edition as AnEdition}
+pub use Rattle.editions.specs.declared.Edition.TheVariants.{First, Second, Third}
+pub use Rattle.rolls.specs.Fit.{ImportFits, IsFit, ListFits, PlacementFits, ProjectFits, StudentFits, SupervisorFits, are_aimed}
+pub use Rattle.rolls.specs.Rows.{AreRowsOf, aim_cells, choice_rows, flag, import_cells, is_generous, list_rows, placement_cells, project_cells, round_cells, rows_in, rows_of_round, student_cells, supervisor_cells}
+pub use Rattle.rolls.specs.State.{State, choices_in, empty, has_project, has_student, has_supervisor, list_key, list_of, project_key, project_of, round_key, round_of, student_key, student_of, supervisor_key, supervisor_of}
+pub use Rattle.row_model.proofs.Tables.{same_table_is, same_table_self}
+pub use Rattle.row_model.specs.Changes.{after_change, after_changes, changed, is_in_part, makes, table_of}
+pub use Rattle.row_model.specs.Rows.{AllRows, Cells, IsPart, IsRow, PartOf, RowOf, SameRows, are_of, begins, is_of, key_in, kinds_of, of_table, same_cell, same_table, shared_by, shared_kinds}
+pub use Rattle.row_model.specs.declared.cell.Cell.{Cell}
+pub use Rattle.row_model.specs.declared.cell.Cell.TheVariants.{Bytes, Number, Text}
+pub use Rattle.row_model.specs.declared.row.Change.{Change}
+pub use Rattle.row_model.specs.declared.row.Change.TheVariants.{Add, Put, Remove}
+pub use Rattle.row_model.specs.declared.table.Table.{Table}
+pub use Rattle.row_model.specs.declared.table.Table.TheVariants.{Choice, Edition, Import, Placement, Project, Round, RoundAim, Student, Supervisor}
+pub use Rattle.sqlite.proofs.StateLemmas.{survives_then, survives_weaker}
+pub use Rattle.sqlite.specs.Effect.{Database, IsDatabase}
+pub use Rattle.sqlite.specs.Held.{Held, state}
+pub use Rattle.sqlite.specs.Order.{Row as Values, column}
+pub use Rattle.sqlite.specs.Schema.{Schema}
+pub use Rattle.sqlite.specs.State.{HasCleanDisk, IsLive, IsUnchanged, KeepsCounts, State as Seen, Survives}
+pub use Rattle.sqlite.specs.Table.{Table as AnyTable}
+pub use Rattle.sqlite.specs.Tree.{Trees}
+pub use Rattle.sqlite.specs.declared.types.Value.{Value}
+pub use Rattle.sqlite.specs.declared.types.Value.TheVariants.{Int, Null}
+pub use Rattle.sqlite_keyed.proofs.ListLemmas.{IsPermutation-same, all-flat_map, all-map, all_map, all_weaker, along_permutation, filter-map, filter_same, map_back}
+pub use Rattle.sqlite_rules.proofs.ListLemmas.{all_has, has_at, has_either, has_got, has_left, has_right, some_from}
+pub use Rattle.sqlite_rules.specs.Lists.{Has}
+pub use Rattle.std.proofs.lemmas.Bool.{and_from, and_parts, cases_Bool, eqb-true, false_from_ne_true, not-true, or_parts}
+pub use Rattle.std.proofs.lemmas.Bool.Decides.{Decides-eqb, nat_tests}
+pub use Rattle.std.proofs.lemmas.List.{drop-map, get_or_default, map-append, take_all, take_more}
+pub use Rattle.std.proofs.lemmas.List.Sorted.{IsPermutation-map, IsPermutation-sym, IsPermutation-trans, length_permutation}
+pub use Rattle.std.proofs.lemmas.Option.{slice_get-get_or, slice_get_read}
+pub use Rattle.std.specs.Cmp.{Equal-is, first_so, int_cmp_is, second_so}
+pub use Rattle.std.specs.List.{AllByRecursion, list_all, list_any}
+pub use Rattle.std.specs.List.Sorted.{IsPermutation}
+pub use Rattle.std.specs.Prelude.{false, ◌&&◌, ◌==◌, ◌||◌}
+pub use Rattle.store.specs.Causes.{GoesThrough, IsHinderedAfter, IsHinderedAmong, IsHinderedChange, IsHinderedCreating, IsHinderedOpening, IsHinderedReading, IsHinderedToAddTables, IsHinderedToMigrate, OfNumber, Ran, RanTables, latest_number}
+pub use Rattle.store.specs.Editions.{IsEarlier, beyond, latest, migrated, number_of, rolls_of}
+pub use Rattle.store.specs.Inside.Editions.{IsEditionOf}
+pub use Rattle.store.specs.Inside.Migrating.{AskMigrated, Rises}
+pub use Rattle.store.specs.Inside.Reading.{AreReadRows, FindsOffice, HoldsColumns, HoldsNoRow, HoldsRows, HoldsUnread, IsAlone, IsElsewhere, IsListedAlone, IsNoRow, IsTyped, IsTypedRow, ReadsAll, ReadsCells, ReadsSome, ReadsTable}
+pub use Rattle.store.specs.Inside.Saving.{entry}
+pub use Rattle.store.specs.Inside.Tables.{Empties}
+pub use Rattle.store.specs.Reading.{AreAllListed, IsDamaged, IsUnfitIn}
+pub use Rattle.store.specs.Rows.{IsAmong, IsRollTable, all_tables, rolls, value_of, values}
+pub use Rattle.store.specs.Saving.{AllNeed, Applies, AreActedOnAmong, AreInert, AreLeftAmong, IsActedOnAt, IsLeftAlone, IsSaving, Needs, Saves, Spares}
+pub use Rattle.store.specs.Tables.{AreRuled, Brings, HasNone, HasNoneOf, HoldIn, MakesTables, Migrates, Opens, StandsFor, StandsIn, TablesHold, TablesOf, numbered}
+pub use Rattle.store.specs.declared.fault.StoreFault.TheVariants.{Damaged, Storage}
+pub use Rattle.tables.proofs.Causes.{stopped_after, stopped_as, stopped_before}
+pub use Rattle.tables.proofs.Runs.{decide_table, listed_at_one, listed_once, low_tree, part_as, part_none, part_ok, part_then, rests_then, stands_apart, stands_beside, stands_kept, stays_none, stays_stepped, stays_then, stepped_as, survives_both, survives_none}
+pub use Rattle.tables.proofs.Starved.{lacks_after}
+pub use Rattle.tables.specs.Causes.{IsCaused, IsCausedInside, IsRefusedIn, IsStopped, IsTableMade, IsUnmade, IsUnread}
+pub use Rattle.tables.specs.Inert.{IsActedOn}
+pub use Rattle.tables.specs.Inside.Steps.{Stays}
+pub use Rattle.tables.specs.Keyed.{Stands}
+pub use Rattle.tables.specs.Layout.{IsListed, IsUnlisted, is_there}
+pub use Rattle.tables.specs.Steps.{Does, HasSaved, HasStepped, IsKept, MayRecoverTo, Rests, Shows}
+pub use Rattle.tables.specs.Table.{Lists, Place, cells, made_here, rules_of, shape_of, table_at}
+pub use Rattle.tables.specs.Writes.{Adds, Creates, Enters, Leaves, WritesOnly, begins_with, goes_on, with_row}
+pub use Rattle.tables.specs.declared.fault.TableFault.{TableFault}
+pub use Rattle.tables.specs.declared.fault.TableFault.TheVariants.{Memory}
+pub use Rattle.tables.specs.declared.statements.Entering.TheVariants.{InPlace, New}
