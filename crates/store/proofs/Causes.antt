@@ -1,6 +1,6 @@
 -- Why a call of the store failed, from why the statement did on which it ended.
 use Rattle.std.proofs.Common.{◌≡◌, ◌≤◌, ◌<◌, ◌+◌, inl, inr, ℕ, List, [], ◌∷◌, ◌++◌, take, get_or, length, Option, Some, slice_get, refl, sym, ap, subst, ◌∙◌}
-use Rattle.store.proofs.Common.{take_more, take_all, Database, Seen, HasCleanDisk, Survives, IsUnchanged, TableFault, Table, Edition, cases_Bool, Has, IsStopped, IsUnread, RowOf, ReadsSome, AnEdition, rolls_of, AreAllListed, table_at, stopped_after, stopped_as, Storage, IsHinderedAfter, IsHinderedReading, Ran}
+use Rattle.store.proofs.Common.{take_more, take_all, Database, Seen, HasCleanDisk, Survives, IsUnchanged, TableFault, Table, Edition, cases_Bool, Has, IsStopped, IsUnread, RowOf, ReadsSome, AnEdition, rolls_of, AreAllListed, table_at, stopped_after, stopped_as, Storage, IsHinderedReading}
 use Rattle.tables.specs.declared.fault.TableFault.TheVariants as fault
 use Rattle.store.proofs.ListedTables.{is_next}
 use Rattle.store.specs.Inside.Faults.{of_table}
@@ -10,28 +10,6 @@ use Rattle.store.specs.Inside.Causes.{IsHinderedReadingIn}
 pub of_storage : (f : TableFault) → of_table f ≡ Storage → f ≡ fault.Storage
 of_storage fault.Memory h = cc
 of_storage fault.Storage h = refl
-
--- several went through, and one more
-went_more : {X : Type 0} (Goes : X → Option ℕ → Database → Database → Type 0) (done : List X) (x : X) (limit : Option ℕ) (a b c : Database) → Ran Goes done limit a b → Goes x limit b c → Ran Goes (done ++ x ∷ []) limit a c
-went_more Goes [] x limit a b c same goes = (c, subst (λ (d : Database). Goes x limit d c) same goes, refl)
-went_more Goes (y ∷ done) x limit a b c ran goes = (ran.0, ran.1, went_more Goes done x limit ran.0 b c ran.2 goes)
-
--- the same of calls
-pub ran_more : {X : Type 0} (Goes : X → Option ℕ → Database → Database → Type 0) (i : ℕ) (all : List X) (x d : X) (a b c : Seen) → i < length all → x ≡ get_or all i d → b.step_limit ≡ a.step_limit → Ran Goes (take i all) a.step_limit a.now b.now
-    → Goes x b.step_limit b.now c.now → Ran Goes (take (i + 1) all) a.step_limit a.now c.now
-ran_more Goes i all x d a b c low is limit ran goes =
-    let more : take i all ++ x ∷ [] ≡ take (i + 1) all = ap (λ y. take i all ++ y ∷ []) is ∙ sym (take_more all i d low) in
-    subst (λ xs. Ran Goes xs a.step_limit a.now c.now) more (went_more Goes (take i all) x a.step_limit a.now b.now c.now ran (subst (λ l. Goes x l b.now c.now) limit goes))
-
--- all of them
-pub ran_all : {X : Type 0} (Goes : X → Option ℕ → Database → Database → Type 0) (i : ℕ) (all : List X) (a b : Seen) → length all ≤ i → Ran Goes (take i all) a.step_limit a.now b.now → Ran Goes all a.step_limit a.now b.now
-ran_all Goes i all a b end = subst (λ xs. Ran Goes xs a.step_limit a.now b.now) (take_all i all end)
-
--- one of several was refused
-pub one_refused : {X : Type 0} (Goes : X → Option ℕ → Database → Database → Type 0) (H : X → Option ℕ → Database → Type 0) (i : ℕ) (all : List X) (one : X) (a b c : Seen) → slice_get all i ≡ Some one → Survives a b (λ _. ⊥) → HasCleanDisk b → b.faults ≤ c.faults
-    → Ran Goes (take i all) a.step_limit a.now b.now → IsStopped (H one) b c → IsStopped (IsHinderedAfter Goes H all) a c
-one_refused Goes H i all one a b c there survives clean up ran =
-    stopped_after (H one) (IsHinderedAfter Goes H all) a b c survives clean up (λ h. record { count = i; one = one; there = there; between = b.now; ran = ran; hindered = h })
 
 -- a call after another that changed nothing
 pub unchanged_before : (H K : Option ℕ → Database → Type 0) (a b c : Seen) → IsUnchanged a b → Survives a b (λ _. ⊥) → HasCleanDisk b → b.faults ≤ c.faults → ((limit : Option ℕ) (db : Database) → H limit db → K limit db) → IsStopped H b c → IsStopped K a c

@@ -1,9 +1,13 @@
 -- Changes one after another.
 use Rattle.std.proofs.Common.{◌≡◌, ℕ, ◌+◌, ◌<◌, List, [], ◌∷◌, ◌++◌, length, get_or, take, refl, sym, ap, subst, ◌∙◌, Result, Ok, Err, OnOk, IsTrue}
-use Rattle.store.proofs.Common.{take_more, Database, Change, Add, Put, Remove, after_changes, table_of, after_both, Trees, HasStepped, HasSaved, MayRecoverTo, Stays, stays_none, stays_then, TablesHold, Schema, Has, Lists, table_at, AllNeed, AreInert, IsSaving, Needs, Spares}
+use Rattle.store.proofs.Common.{take_more, Database, Change, Add, Put, Remove, after_changes, table_of, after_both, Trees, HasStepped, HasSaved, MayRecoverTo, Stays, stays_none, TablesHold, Schema, Has, Lists, table_at, AllNeed, AreInert, IsSaving, Needs, Spares}
 use Rattle.sqlite.specs.State.{State}
 use Rattle.store.specs.Saving.{Applies, LeavesOthers, Saves}
 use Rattle.store.specs.Inside.Saving.{AppliesOne}
+use Rattle.tables.specs.Outcomes.{each_of}
+use Rattle.tables.proofs.Outcomes.{did_all}
+use Rattle.store.specs.Causes.{applying}
+use Rattle.store.proofs.Held.{applies_one}
 
 -- no change applies nothing
 pub applies_none : (db : Database) → Applies [] db db
@@ -42,16 +46,9 @@ applies_then cs c x y z p q need rows t =
     let then = q (subst (Needs c) (sym first.1.schema) needs.1) (after_changes cs rows) first.0 in
     (subst (TablesHold z) (sym (after_both cs (c ∷ []) rows)) then.0, spares_then x y z first.1 then.1)
 
--- nothing was changed yet
-pub changes_none : (s : State) → Stays (Applies []) s s
-changes_none s = stays_none (Applies []) s (applies_none s.now)
-
--- one change more
-pub changes_more : (i : ℕ) (changes : List Change) (change : Change) (a b c : State) → i < length changes → change ≡ get_or changes i change → Stays (Applies (take i changes)) a b
-    → HasStepped (AppliesOne change) b c → Stays (Applies (take (i + 1) changes)) a c
-changes_more i changes change a b c low is p q =
-    let all : take i changes ++ change ∷ [] ≡ take (i + 1) changes = ap (λ x. take i changes ++ x ∷ []) is ∙ sym (take_more changes i change low) in
-    subst (λ cs. Stays (Applies cs) a c) all (stays_then (Applies (take i changes)) (AppliesOne change) (Applies (take i changes ++ change ∷ [])) a b c (applies_then (take i changes) change a.now b.now c.now) p q)
+-- changes that were made one after another were applied
+pub applied : (changes : List Change) (old new : Database) → (let all = each_of applying changes in all.does old new) → Applies changes old new
+applied changes old new = did_all applying Applies (λ done c a b d p one. applies_then done c a b d p (applies_one c b d one)) changes old new (applies_none old)
 
 -- changes that were applied are saved, where nothing acts on the tables
 pub saves : (changes : List Change) (old new : Database) → AreInert old.schema → Applies changes old new → Saves changes old new
@@ -59,8 +56,8 @@ unfolding Applies Saves
 saves changes old new inert p rows t = (p (all_needed changes old.schema inert) rows t).0
 
 -- the same of what a crash leaves
-pub saves_left : (changes : List Change) (old : State) (trees : Trees) → AreInert old.now.schema → MayRecoverTo (Applies changes) old trees → MayRecoverTo (Saves changes) old trees
-saves_left changes old trees inert h = record { was_open = h.was_open; db = h.db; sound = h.sound; step = saves changes old.now h.db inert h.step; same = h.same }
+pub saves_left : (changes : List Change) (old : State) (trees : Trees) → AreInert old.now.schema → MayRecoverTo (let all = each_of applying changes in all.does) old trees → MayRecoverTo (Saves changes) old trees
+saves_left changes old trees inert h = record { was_open = h.was_open; db = h.db; sound = h.sound; step = saves changes old.now h.db inert (applied changes old.now h.db h.step); same = h.same }
 
 -- changes that were applied left the other tables alone
 pub leaves_others : (changes : List Change) (old new : Database) → AreInert old.schema → Applies changes old new → LeavesOthers old new
@@ -69,10 +66,10 @@ leaves_others changes old new inert p rows t = (p (all_needed changes old.schema
 
 -- so a transaction of them has saved them, where a crash leaves what was committed
 pub saving_call : {E : Type 0} (changes : List Change) (a b : State) (r : Result (Unit {0}) E) → AreInert a.now.schema → ((trees : Trees) → IsTrue b.is_open → b.may_leave trees → trees ≡ b.committed.trees)
-    → OnOk r (HasSaved (Applies changes) a b) → OnOk r (IsSaving changes a b)
+    → OnOk r (HasSaved (let all = each_of applying changes in all.does) a b) → OnOk r (IsSaving changes a b)
 saving_call changes a b (Ok u) inert settled h = record {
-  saved = record { shown = h.shown; step = saves changes a.now b.now inert h.step };
-  others = leaves_others changes a.now b.now inert h.step;
+  saved = record { shown = h.shown; step = saves changes a.now b.now inert (applied changes a.now b.now h.step) };
+  others = leaves_others changes a.now b.now inert (applied changes a.now b.now h.step);
   alone = λ trees left. settled trees h.shown.is_open left ∙ ap (λ (db : Database). db.trees) h.shown.committed_is;
 }
 saving_call changes a b (Err e) inert settled h = h

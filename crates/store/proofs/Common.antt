@@ -37,12 +37,11 @@ pub use Rattle.std.specs.Cmp.{Equal-is, first_so, int_cmp_is, second_so}
 pub use Rattle.std.specs.List.{AllByRecursion, list_all, list_any}
 pub use Rattle.std.specs.List.Sorted.{IsPermutation}
 pub use Rattle.std.specs.Prelude.{false, ◌&&◌, ◌==◌, ◌||◌}
-pub use Rattle.store.specs.Causes.{GoesThrough, IsHinderedAfter, IsHinderedAmong, IsHinderedChange, IsHinderedCreating, IsHinderedOpening, IsHinderedReading, IsHinderedToAddTables, IsHinderedToMigrate, OfNumber, Ran, RanTables, latest_number}
+pub use Rattle.store.specs.Causes.{IsHinderedAmong, IsHinderedOpening, IsHinderedReading, IsHinderedToMigrate}
 pub use Rattle.store.specs.Editions.{IsEarlier, beyond, latest, migrated, number_of, rolls_of}
 pub use Rattle.store.specs.Inside.Editions.{IsEditionOf}
 pub use Rattle.store.specs.Inside.Migrating.{AskMigrated, Rises}
 pub use Rattle.store.specs.Inside.Reading.{AreReadRows, FindsOffice, HoldsColumns, HoldsNoRow, HoldsRows, HoldsUnread, IsAlone, IsElsewhere, IsListedAlone, IsNoRow, IsTyped, IsTypedRow, ReadsAll, ReadsCells, ReadsSome, ReadsTable}
-pub use Rattle.store.specs.Inside.Saving.{entry}
 pub use Rattle.store.specs.Inside.Tables.{Empties}
 pub use Rattle.store.specs.Reading.{AreAllListed, IsDamaged, IsUnfitIn}
 pub use Rattle.store.specs.Rows.{IsAmong, IsRollTable, all_tables, rolls, value_of, values}
@@ -50,14 +49,14 @@ pub use Rattle.store.specs.Saving.{AllNeed, Applies, AreActedOnAmong, AreInert, 
 pub use Rattle.store.specs.Tables.{AreRuled, Brings, HasNone, HasNoneOf, HoldIn, MakesTables, Migrates, Opens, StandsFor, StandsIn, TablesHold, TablesOf, numbered}
 pub use Rattle.store.specs.declared.fault.StoreFault.TheVariants.{Damaged, Storage}
 pub use Rattle.tables.proofs.Causes.{stopped_after, stopped_as, stopped_before}
-pub use Rattle.tables.proofs.Runs.{decide_table, listed_at_one, listed_once, low_tree, part_as, part_none, part_ok, part_then, rests_then, stands_apart, stands_beside, stands_kept, stays_none, stays_stepped, stays_then, stepped_as, survives_both, survives_none}
+pub use Rattle.tables.proofs.Runs.{decide_table, listed_at_one, listed_once, low_tree, part_none, part_ok, rests_then, stands_apart, stands_beside, stands_kept, stays_none, stays_stepped, stepped_as, survives_both, survives_none}
 pub use Rattle.tables.proofs.Starved.{lacks_after}
 pub use Rattle.tables.specs.Causes.{IsCaused, IsCausedInside, IsRefusedIn, IsStopped, IsTableMade, IsUnmade, IsUnread}
 pub use Rattle.tables.specs.Inert.{IsActedOn}
 pub use Rattle.tables.specs.Inside.Steps.{Stays}
 pub use Rattle.tables.specs.Keyed.{Stands}
 pub use Rattle.tables.specs.Layout.{IsListed, IsUnlisted, is_there}
-pub use Rattle.tables.specs.Steps.{Does, HasSaved, HasStepped, IsKept, MayRecoverTo, Rests, Shows}
+pub use Rattle.tables.specs.Steps.{HasSaved, HasStepped, IsKept, MayRecoverTo, Rests, Shows}
 pub use Rattle.tables.specs.Table.{Lists, Place, cells, made_here, rules_of, shape_of, table_at}
 pub use Rattle.tables.specs.Writes.{Adds, Creates, Enters, Leaves, WritesOnly, begins_with, goes_on, with_row}
 pub use Rattle.tables.specs.declared.fault.TableFault.{TableFault}

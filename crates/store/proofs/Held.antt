@@ -1,8 +1,10 @@
 -- What one statement makes of the tables: of the rows of its table what the change makes of them, and of the others nothing.
 use Rattle.std.proofs.Common.{◌≡◌, ◌≢◌, Bool, true, false, not, cond, List, [], ◌∷◌, filter, map, drop, refl, sym, ap, subst, ◌∙◌, true≢false}
-use Rattle.store.proofs.Common.{drop-map, filter-map, filter_same, Database, Values, all_has, Table, Edition, Change, Add, Put, Remove, AllRows, Cells, IsPart, IsRow, PartOf, RowOf, key_in, same_table, shared_by, after_change, changed, is_in_part, makes, table_of, same_table_self, by_table, change_elsewhere, change_here, table_at, Stands, Enters, Leaves, WritesOnly, begins_with, goes_on, stands_apart, InPlace, New, latest, number_of, IsRollTable, values, Spares, TablesHold, numbered, entry}
-use Rattle.tables.specs.Writes.{Puts, Removes}
-use Rattle.tables.specs.declared.statements.Entering.{Entering}
+use Rattle.store.proofs.Common.{second_so, drop-map, filter-map, filter_same, Database, Values, all_has, Table, Edition, Change, Add, Put, Remove, AllRows, Cells, IsPart, IsRow, PartOf, RowOf, key_in, same_table, shared_by, after_change, changed, is_in_part, makes, table_of, same_table_self, by_table, change_elsewhere, change_here, table_at, Stands, Enters, Leaves, WritesOnly, begins_with, goes_on, stands_apart, InPlace, New, latest, number_of, IsRollTable, values, Spares, TablesHold, numbered}
+use Rattle.tables.specs.Writes.{Enters, Leaves, Puts, Removes}
+use Rattle.tables.specs.declared.statements.Entering.TheVariants.{InPlace, New}
+use Rattle.tables.proofs.Made.{enters, leaves}
+use Rattle.store.specs.Causes.{applying}
 use Rattle.store.specs.Inside.Saving.{AppliesOne}
 use Rattle.store.proofs.Begins.{begins_same}
 use Rattle.store.proofs.Among.{part_in_rolls, row_in_rolls}
@@ -49,26 +51,25 @@ module _ (p : Cells → Bool) (found : Values → Bool) (same : (row : Cells) �
 part_found : (p : PartOf) (row : Cells) → goes_on (let s = shared_by p.group in s.1) (values p.cells) (values row) ≡ is_in_part p row
 part_found p row = ap (begins_with (values p.cells)) (drop-map _ (let s = shared_by p.group in s.1) row) ∙ begins_same p.cells (drop (let s = shared_by p.group in s.1) row)
 
--- a row that was put in its table, or added to it
-pub hold_enter : (way : Entering) (r : RowOf) (old new : Database) → IsRow r → Enters way (table_at r.table) (values (key_in r.table r.cells)) (values r.cells) old new → AppliesOne (entry way r) old new
-unfolding AppliesOne Puts
-hold_enter InPlace r old new is puts need rows t =
+-- a change that was made
+pub applies_one : (c : Change) (old new : Database) → (let it = applying c in it.does old new) → AppliesOne c old new
+unfolding AppliesOne Puts Removes
+applies_one (Put r) old new (is, made) need rows t =
     let among = row_in_rolls r is in
     let place = t.places r.table in
+    let puts : Enters InPlace (table_at r.table) (values (key_in r.table r.cells)) (values r.cells) old new = enters r.table r.cells (second_so _ _ is) InPlace old new made in
     let done = puts place (map values (rows r.table)) (need among place (t.rolls r.table among).listed) (t.rolls r.table among) in
-    let made = put_so _ _ (begins_same (key_in r.table r.cells)) r.cells (rows r.table) in
-    (held (Put r) old new rows t among done.1 (subst (λ held. Stands (table_at r.table) place held new) made done.0), spared (Put r) old new rows t among done.1)
-hold_enter New r old new is adds need rows t =
+    let so = put_so _ _ (begins_same (key_in r.table r.cells)) r.cells (rows r.table) in
+    (held (Put r) old new rows t among done.1 (subst (λ held. Stands (table_at r.table) place held new) so done.0), spared (Put r) old new rows t among done.1)
+applies_one (Add r) old new (is, made) need rows t =
     let among = row_in_rolls r is in
+    let adds : Enters New (table_at r.table) (values (key_in r.table r.cells)) (values r.cells) old new = enters r.table r.cells (second_so _ _ is) New old new made in
     let done = adds (t.places r.table) (map values (rows r.table)) (t.rolls r.table among) in
     (held (Add r) old new rows t among done.1 done.0, spared (Add r) old new rows t among done.1)
-
--- a part that was taken out
-pub hold_leave : (p : PartOf) (old new : Database) → IsPart p → Leaves p.group (values p.cells) old new → AppliesOne (Remove p) old new
-unfolding AppliesOne Removes
-hold_leave p old new is removes need rows t =
+applies_one (Remove p) old new (is, made) need rows t =
     let q = table_of p in
     let among = part_in_rolls p is in
     let place = t.places q in
+    let removes : Leaves p.group (values p.cells) old new = leaves p.group (values p.cells) old new made in
     let done = removes place (map values (rows q)) (need among place (t.rolls q among).listed) (t.rolls q among) in
     (held (Remove p) old new rows t among done.1 (subst (λ held. Stands (table_at q) place held new) (left_so _ _ (part_found p) (rows q)) done.0), spared (Remove p) old new rows t among done.1)

@@ -1,6 +1,6 @@
 -- Tables of an earlier edition are migrated: the number is another, tables come next to those that stand, and rows are added.
 use Rattle.std.proofs.Common.{◌≡◌, ◌≢◌, ◌↔◌, IsTrue, arith, ◌⊎◌, inl, inr, ℕ, pos, Bool, true, false, cond, List, [], ◌∷◌, ◌++◌, map, Option, refl, sym, ap, subst, ◌∙◌, true≢false}
-use Rattle.store.proofs.Common.{◌&&◌, Int, Database, Values, Schema, Seen, HasCleanDisk, IsUnchanged, Survives, AnyTable, Has, all_has, has_either, has_got, Change, AllRows, AnEdition, First, Second, Third, Table, Edition, Place, Lists, table_at, IsActedOn, Stands, IsStopped, stopped_before, Stays, HasStepped, with_row, listed_at_one, listed_once, stands_kept, stands_apart, stepped_as, latest_number, beyond, latest, number_of, migrated, rolls_of, IsRollTable, rolls, values, AreActedOnAmong, AreLeftAmong, IsLeftAlone, Spares, MakesTables, TablesHold, TablesOf, numbered}
+use Rattle.store.proofs.Common.{◌&&◌, Int, Database, Values, Schema, Seen, HasCleanDisk, IsUnchanged, Survives, AnyTable, Has, all_has, has_either, has_got, Change, AllRows, AnEdition, First, Second, Third, Table, Edition, Place, Lists, table_at, IsActedOn, Stands, IsStopped, stopped_before, Stays, HasStepped, with_row, listed_at_one, listed_once, stands_kept, stands_apart, stepped_as, beyond, latest, number_of, migrated, rolls_of, IsRollTable, rolls, values, AreActedOnAmong, AreLeftAmong, IsLeftAlone, Spares, MakesTables, TablesHold, TablesOf, numbered}
 use Rattle.tables.proofs.Quiet.{inert_so}
 use Rattle.tables.specs.Writes.{Puts}
 use Rattle.store.proofs.Causes.{unchanged_before}
@@ -10,6 +10,11 @@ use Rattle.store.specs.Saving.{Applies}
 use Rattle.store.specs.Tables.{AreRuledAmong, LeavesTables}
 use Rattle.store.specs.Inside.Migrating.{AddsTables, LiftsEdition, Rises}
 use Rattle.store.proofs.Standing.{stand_as}
+use Rattle.tables.specs.declared.statements.Entering.TheVariants.{InPlace}
+use Rattle.tables.proofs.Made.{enters}
+use Rattle.store.specs.Causes.{adding_tables, latest_number, migrating}
+use Rattle.store.proofs.ChangesInOrder.{applied}
+use Rattle.store.proofs.NewTables.{made_all}
 use Rattle.store.proofs.Among.{among_or_not, fresh_beyond, has_left, is_among, old_among, stands_among}
 use Rattle.store.proofs.Begins.{int_self}
 
@@ -156,38 +161,22 @@ others_with_edition tables number other rows a b c alone t puts later any listed
       then.1 ∙ all_has _ a.schema.tables any done.1.others (has_got a.schema.tables listed.at any listed.there) (away Edition (inl refl) t.edition t.editions.listed),
     )
 
-adds_tables : (e : AnEdition) (changes : List Change) (a b c : Database) → MakesTables (beyond e) a b → Applies changes b c → AddsTables e changes a c
+adds_tables : (e : AnEdition) (changes : List Change) (a c : Database) → (let it = adding_tables e changes in it.does a c) → AddsTables e changes a c
 unfolding AddsTables Applies
-adds_tables e changes a b c made applied asks none rows t =
+adds_tables e changes a c (b, tables, changed) asks none rows t =
+    let made = made_all (beyond e) a b tables in
     let all : TablesHold b rows = subst (λ tables. TablesOf tables (number_of latest) b rows) (all_rolls e) (more_tables (rolls_of e) (beyond e) (number_of latest) rows a b (fresh_beyond e) t made) in
-    let done = applied (asks b.schema (left_so migrated b.schema (quiet_then e (number_of latest) rows a b t made none))) rows all in
+    let done = applied changes b c changed (asks b.schema (left_so migrated b.schema (quiet_then e (number_of latest) rows a b t made none))) rows all in
     (done.0, subst (AreRuledAmong (beyond e)) (sym done.1.schema) (made_ruled (beyond e) a b made), others_with_tables e (number_of latest) rows a b c t made done.1)
 
-lifts_edition : (e : AnEdition) (changes : List Change) (a b c : Database) → Puts (table_at Edition) (Int (pos 1) ∷ []) latest_number a b → AddsTables e changes b c → LiftsEdition e changes a c
+lifts_edition : (e : AnEdition) (changes : List Change) (a c : Database) → (let it = migrating e changes in it.does a c) → LiftsEdition e changes a c
 unfolding AddsTables Rises LiftsEdition
-lifts_edition e changes a b c puts with_tables none asks rows t =
+lifts_edition e changes a c (b, numbered_so, more) none asks rows t =
+    let puts : Puts (table_at Edition) (Int (pos 1) ∷ []) (values latest_number) a b = enters Edition latest_number refl InPlace a b numbered_so in
     let alone = left_so migrated a.schema none Edition (is_among migrated Edition (inl refl)) in
     let done = other_number (rolls_of e) (number_of e) (number_of latest) rows a b alone t puts in
-    let all = with_tables asks (λ acted. none (subst (AreActedOnAmong migrated) done.1 acted)) rows done.0 in
+    let all = adds_tables e changes b c more asks (λ acted. none (subst (AreActedOnAmong migrated) done.1 acted)) rows done.0 in
     (all.0, all.1, others_with_edition (rolls_of e) (number_of e) (number_of latest) rows a b c alone t puts all.2)
-
--- runs of statements, one after another
-pub adds_tables_by : (e : AnEdition) (changes : List Change) (a b c : Seen) → Stays (MakesTables (beyond e)) a b → Stays (Applies changes) b c → Stays (AddsTables e changes) a c
-adds_tables_by e changes a b c p q = record { shut = q.shut ∙ p.shut; committed = q.committed ∙ p.committed; mode = q.mode ∙ p.mode; sound = λ s. q.sound (p.sound s); step = adds_tables e changes a.now b.now c.now p.step q.step }
-
-pub lifts_edition_by : (e : AnEdition) (changes : List Change) (a b c : Seen) → HasStepped (Puts (table_at Edition) (Int (pos 1) ∷ []) latest_number) a b → Stays (AddsTables e changes) b c → HasStepped (LiftsEdition e changes) a c
-lifts_edition_by e changes a b c p q = record {
-  inside = p.inside;
-  shown = record {
-    was_open = p.shown.was_open;
-    is_open = subst IsTrue (sym q.shut) p.shown.is_open;
-    now_is = refl;
-    committed_is = q.committed ∙ p.shown.committed_is;
-    mode = q.mode ∙ p.shown.mode;
-  };
-  sound = q.sound p.sound;
-  step = lifts_edition e changes a.now b.now c.now p.step q.step;
-}
 
 -- a transaction that has begun has the schema that was there
 pub begun_quiet : (first begun : Seen) → begun ≡ record first { in_transaction = true } → (AreActedOnAmong migrated first.now.schema → ⊥) → AreActedOnAmong migrated begun.now.schema → ⊥
@@ -198,9 +187,9 @@ pub none_acts : (b : Bool) (schema : Schema) → b ≡ true → (b ≡ false) �
 none_acts b schema passes exact acted = true≢false (sym passes ∙ exact.1 acted)
 
 -- where no foreign key acts on the tables in which rows are replaced or taken out
-pub rises_by : (e : AnEdition) (changes : List Change) (a b : Seen) → (AreActedOnAmong migrated a.now.schema → ⊥) → HasStepped (LiftsEdition e changes) a b → HasStepped (Rises e changes) a b
+pub rises_by : (e : AnEdition) (changes : List Change) (a b : Seen) → (AreActedOnAmong migrated a.now.schema → ⊥) → HasStepped (let it = migrating e changes in it.does) a b → HasStepped (Rises e changes) a b
 unfolding LiftsEdition
-rises_by e changes a b none p = stepped_as (LiftsEdition e changes) (Rises e changes) a b (λ with_edition. with_edition none) p
+rises_by e changes a b none p = stepped_as (let it = migrating e changes in it.does) (Rises e changes) a b (λ did. lifts_edition e changes a.now b.now did none) p
 
 -- a call in a transaction that was stopped, which is then dropped
 pub stopped_within : (H : Option ℕ → Database → Type 0) (first begun mid last : Seen) → begun ≡ record first { in_transaction = true } → (HasCleanDisk mid → IsStopped H begun mid) → Survives mid last (λ _. ⊥) → HasCleanDisk last → IsStopped H first last

@@ -1,9 +1,14 @@
 -- The tables that were made stand for the empty office.
 use Rattle.std.proofs.Common.{◌≡◌, ◌≢◌, ◌⊎◌, ◌+◌, ◌<◌, ◌≤◌, ◌++◌, ℕ, List, [], ◌∷◌, length, get_or, take, inl, inr, map, refl, sym, ap, subst, ◌∙◌}
-use Rattle.store.proofs.Common.{take_more, take_all, Database, Schema, AnyTable, Seen, Trees, Value, Has, all_has, has_either, has_got, rows_in, State, empty, Table, Edition, Supervisor, Place, Lists, rules_of, table_at, Stands, Creates, Adds, HasStepped, MayRecoverTo, Stays, listed_once, stands_apart, stands_beside, stays_none, stays_then, stays_stepped, decide_table, latest, number_of, all_tables, rolls, values, AreRuled, Brings, MakesTables, StandsFor, HasNone, Opens, numbered}
+use Rattle.store.proofs.Common.{take_more, take_all, Database, Schema, AnyTable, Seen, Trees, Value, Has, all_has, has_either, has_got, rows_in, State, empty, Table, Edition, Supervisor, Place, Lists, rules_of, table_at, Stands, Creates, Adds, HasStepped, MayRecoverTo, Stays, listed_once, stands_apart, stands_beside, stays_none, stays_stepped, decide_table, latest, number_of, all_tables, rolls, values, AreRuled, Brings, MakesTables, StandsFor, HasNone, Opens, numbered}
 use Rattle.store.specs.Tables.{AreRuledAmong, LeavesTables}
 use Rattle.store.specs.Inside.Tables.{Empties}
 use Rattle.store.proofs.Among.{apart_edition, stands_among}
+use Rattle.tables.specs.declared.statements.Entering.TheVariants.{New}
+use Rattle.tables.specs.Outcomes.{each_of, making}
+use Rattle.tables.proofs.Made.{enters}
+use Rattle.tables.proofs.Outcomes.{did_all}
+use Rattle.store.specs.Causes.{creating, latest_number}
 
 -- the empty office has no rows
 no_rows : (table : Table) → rows_in empty table ≡ []
@@ -11,8 +16,8 @@ no_rows Supervisor = refl
 no_rows _ = refl
 
 -- no table was made yet
-pub made_none : (s : Seen) → Stays (MakesTables []) s s
-made_none s = stays_none (MakesTables []) s (record { places = λ table. record { tree = 0; rules = rules_of table }; ruled = λ table h. absurd h; stand = λ table h. absurd h; apart = λ a b h. absurd h; others = λ t listed. (listed, refl, λ table h. absurd h); quiet = λ t listed acts. acts })
+made_none : (db : Database) → MakesTables [] db db
+made_none db = record { places = λ table. record { tree = 0; rules = rules_of table }; ruled = λ table h. absurd h; stand = λ table h. absurd h; apart = λ a b h. absurd h; others = λ t listed. (listed, refl, λ table h. absurd h); quiet = λ t listed acts. acts }
 
 module _ (done : List Table) (q : Table) (a b c : Database) (m : MakesTables done a b) (n : Creates (table_at q) (rules_of q) [] b c) where
   -- where a table stands: the last one at its new place
@@ -63,17 +68,9 @@ module _ (done : List Table) (q : Table) (a b c : Database) (m : MakesTables don
     quiet = λ t listed acts. m.quiet t listed (n.quiet t (m.others t listed).0 acts);
   }
 
--- the same of the statements that make them
-pub made_more : (i : ℕ) (all : List Table) (d : Table) (a b c : Seen) → i < length all → Stays (MakesTables (take i all)) a b → HasStepped (Creates (table_at (get_or all i d)) (rules_of (get_or all i d)) []) b c
-    → Stays (MakesTables (take (i + 1) all)) a c
-made_more i all d a b c low p n =
-    let q = get_or all i d in
-    subst (λ rs. Stays (MakesTables rs) a c) (sym (take_more all i d low))
-    (stays_then (MakesTables (take i all)) (Creates (table_at q) (rules_of q) []) (MakesTables (take i all ++ q ∷ [])) a b c (made_then (take i all) q a.now b.now c.now) p n)
-
--- each of them was made
-pub made_all : (i : ℕ) (all : List Table) (a b : Seen) → length all ≤ i → Stays (MakesTables (take i all)) a b → Stays (MakesTables all) a b
-made_all i all a b end = subst (λ rs. Stays (MakesTables rs) a b) (take_all i all end)
+-- tables were made one after another
+pub made_all : (tables : List Table) (old new : Database) → (let all = each_of making tables in all.does old new) → MakesTables tables old new
+made_all tables old new = did_all making MakesTables (λ done q a b c p one. made_then done q a b c p one.0) tables old new (made_none old)
 
 -- the tables, once that of the edition has its row
 empty_stands : (row : List Value) → row ∷ [] ≡ numbered (number_of latest) → (a b c : Database) → MakesTables all_tables a b → Adds (table_at Edition) row b c → StandsFor c empty
@@ -115,20 +112,25 @@ others_stay row a b c m n t listed other =
     )
 
 -- the tables were made one after the other, and then the edition was written
-pub created : (row : List Value) → row ∷ [] ≡ numbered (number_of latest) → (a b c : Seen) → Stays (MakesTables all_tables) a b → HasStepped (Adds (table_at Edition) row) b c → HasStepped Empties a c
+pub creates : (old new : Database) → creating.does old new → Empties old new
 unfolding Empties
-created row is a b c m n = stays_stepped (MakesTables all_tables) (Adds (table_at Edition) row) Empties a b c (λ p q. (empty_stands row is a.now b.now c.now p q, ruled_so row a.now b.now c.now p q, others_stay row a.now b.now c.now p q)) m n
+creates a c (b, made, numbered_so) =
+    let p = made_all all_tables a b made in
+    let q : Adds (table_at Edition) (values latest_number) b c = enters Edition latest_number refl New b c numbered_so in
+    (empty_stands (values latest_number) refl a b c p q, ruled_so (values latest_number) a b c p q, others_stay (values latest_number) a b c p q)
 
 -- the tables were made where there were none
-pub opens_new : (old new : Database) (office : State) → HasNone old.schema → office ≡ empty → Empties old new → Opens old new office
+pub opens_new : (old new : Database) (office : State) → HasNone old.schema → office ≡ empty → creating.does old new → Opens old new office
 unfolding Empties
-opens_new old new office none is made = inl (none, is, made.0, made.1)
+opens_new old new office none is did = let made = creates old new did in inl (none, is, made.0, made.1)
 
 -- what a crash leaves of the making
-pub founds_left : (old : Seen) (trees : Trees) → HasNone old.now.schema → MayRecoverTo Empties old trees → MayRecoverTo Brings old trees
+pub founds_left : (old : Seen) (trees : Trees) → HasNone old.now.schema → MayRecoverTo creating.does old trees → MayRecoverTo Brings old trees
 unfolding Empties
-founds_left old trees none h = record { was_open = h.was_open; db = h.db; sound = h.sound; step = inl (record { none = none; stands = h.step.0; ruled = h.step.1 }); same = h.same }
+founds_left old trees none h =
+    let made = creates old.now h.db h.step in
+    record { was_open = h.was_open; db = h.db; sound = h.sound; step = inl (record { none = none; stands = made.0; ruled = made.1 }); same = h.same }
 
-pub founds_others : (old new : Database) → Empties old new → LeavesTables old new
+pub founds_others : (old new : Database) → creating.does old new → LeavesTables old new
 unfolding Empties
-founds_others old new made = made.2
+founds_others old new did = let made = creates old new did in made.2

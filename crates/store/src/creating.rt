@@ -3,12 +3,12 @@
 ghost use Rattle.std.specs.Prelude.{◌≡◌, ◌≢◌, IsTrue, false, OnOk, OnErr};
 ghost use Rattle.sqlite.specs.State.{HasCleanDisk, Survives};
 ghost use Rattle.sqlite.specs.Held.{state};
-ghost use Rattle.tables.specs.Steps.{Does, HasSaved, HasStepped, IsKept, MayRecoverTo};
-ghost use Rattle.tables.specs.Inside.Steps.{Stays};
-ghost use Rattle.tables.specs.Causes.{IsCaused, IsCausedInside, IsRunInside, IsStarvedInside};
-ghost use Rattle.store.specs.Causes.{IsHinderedCreating, IsHinderedMaking, RanTables};
-ghost use Rattle.store.specs.Inside.Tables.{Empties};
-ghost use Rattle.store.specs.Tables.{HasNone, HasNoneOf, MakesTables};
+ghost use Rattle.tables.specs.Causes.{IsCaused};
+ghost use Rattle.tables.specs.Outcomes.{each_of, making};
+ghost use Rattle.tables.specs.Steps.{HasSaved, IsKept, MayRecoverTo, Steps};
+ghost use Rattle.tables.specs.Inside.Steps.{Runs};
+ghost use Rattle.store.specs.Causes.{creating};
+ghost use Rattle.store.specs.Tables.{HasNone, HasNoneOf};
 
 use crate::all_tables::TABLES;
 use crate::edition::{LATEST, number_of};
@@ -46,10 +46,7 @@ pub fn has_none(schema: &Schema) -> bool
 /// Makes each of these tables.
 pub fn make_each<S: Alter>(tx: &mut Transaction<'_, S>, tables: &[Table]) -> Result<(), TableFault>
     ensures same_reference { tx.new.conn.ghost_name ≡ tx.old.conn.ghost_name }
-    ensures step { Does (Stays (MakesTables tables.now)) result (state S.Store tx.old.conn.now) (state S.Store tx.new.conn.now) }
-    ensures ran { IsRunInside (RanTables tables.now) result (state S.Store tx.old.conn.now) (state S.Store tx.new.conn.now) }
-    ensures starved { IsStarvedInside result (state S.Store tx.old.conn.now) (state S.Store tx.new.conn.now) }
-    ensures cause { IsCausedInside (IsHinderedMaking tables.now) result (state S.Store tx.old.conn.now) (state S.Store tx.new.conn.now) }
+    ensures step { Runs S.Store (each_of making tables.now) result tx.old.conn.now tx.new.conn.now }
 {
     for table in tables {
         make(tx, *table)?;
@@ -60,9 +57,7 @@ pub fn make_each<S: Alter>(tx: &mut Transaction<'_, S>, tables: &[Table]) -> Res
 /// Makes each table, and says which edition this is.
 fn make_tables<S: Alter>(tx: &mut Transaction<'_, S>) -> Result<(), TableFault>
     ensures same_reference { tx.new.conn.ghost_name ≡ tx.old.conn.ghost_name }
-    ensures step { Does (HasStepped Empties) result (state S.Store tx.old.conn.now) (state S.Store tx.new.conn.now) }
-    ensures starved { IsStarvedInside result (state S.Store tx.old.conn.now) (state S.Store tx.new.conn.now) }
-    ensures cause { IsCausedInside IsHinderedCreating result (state S.Store tx.old.conn.now) (state S.Store tx.new.conn.now) }
+    ensures step { Steps S.Store creating result tx.old.conn.now tx.new.conn.now }
 {
     make_each(tx, &TABLES)?;
     // In the transaction that makes the tables: so no crash leaves tables without their number.
@@ -76,11 +71,13 @@ fn make_tables<S: Alter>(tx: &mut Transaction<'_, S>) -> Result<(), TableFault>
 
 /// Makes the tables in one transaction.
 pub fn create_tables<S: Alter>(conn: &mut Connection<S>) -> Result<(), StoreFault>
-    ensures ok { HasCleanDisk (state S.Store conn.new) → OnOk result (HasSaved Empties (state S.Store conn.old) (state S.Store conn.new)) }
+    ensures ok { HasCleanDisk (state S.Store conn.new)
+        → OnOk result (HasSaved creating.does (state S.Store conn.old) (state S.Store conn.new)) }
     ensures err { HasCleanDisk (state S.Store conn.new) → OnErr result (IsKept (state S.Store conn.old) (state S.Store conn.new)) }
     ensures faults { result ≢ Err StoreFault.Damaged }
-    ensures cause { conn.old.in_transaction ≡ false → IsCaused StoreFault.Storage IsHinderedCreating result (state S.Store conn.old) (state S.Store conn.new) }
-    ensures crash { Survives (state S.Store conn.old) (state S.Store conn.new) (MayRecoverTo Empties (state S.Store conn.old)) }
+    ensures cause { conn.old.in_transaction ≡ false
+        → IsCaused StoreFault.Storage creating.hinders result (state S.Store conn.old) (state S.Store conn.new) }
+    ensures crash { Survives (state S.Store conn.old) (state S.Store conn.new) (MayRecoverTo creating.does (state S.Store conn.old)) }
     ensures ended { conn.old.in_transaction ≡ false → conn.new.in_transaction ≡ false }
 {
     if !conn.is_autocommit() {

@@ -3,11 +3,11 @@
 ghost use Rattle.std.specs.Prelude.{◌≡◌, ◌≢◌, false, OnOk, OnErr};
 ghost use Rattle.sqlite.specs.State.{HasCleanDisk, Survives};
 ghost use Rattle.sqlite.specs.Held.{state};
-ghost use Rattle.tables.specs.Causes.{IsCaused, IsCausedInside, IsStarvedInside};
-ghost use Rattle.tables.specs.Steps.{Does, HasSaved, HasStepped, IsKept, MayRecoverTo};
-ghost use Rattle.tables.specs.Inside.Steps.{Stays};
-ghost use Rattle.store.specs.Causes.{IsHinderedToAddTables, IsHinderedToMigrate};
-ghost use Rattle.store.specs.Inside.Migrating.{AddsTables, LiftsEdition, Rises};
+ghost use Rattle.tables.specs.Causes.{IsCaused};
+ghost use Rattle.tables.specs.Steps.{HasSaved, IsKept, MayRecoverTo, Steps};
+ghost use Rattle.tables.specs.Inside.Steps.{Runs};
+ghost use Rattle.store.specs.Causes.{IsHinderedToMigrate, adding_tables, migrating};
+ghost use Rattle.store.specs.Inside.Migrating.{Rises};
 
 use crate::all_tables::MIGRATED;
 use crate::creating::make_each;
@@ -31,9 +31,7 @@ fn add_tables<S: Alter>(
     changes: &[Change],
 ) -> Result<(), TableFault>
     ensures same_reference { tx.new.conn.ghost_name ≡ tx.old.conn.ghost_name }
-    ensures step { Does (Stays (AddsTables edition changes.now)) result (state S.Store tx.old.conn.now) (state S.Store tx.new.conn.now) }
-    ensures starved { IsStarvedInside result (state S.Store tx.old.conn.now) (state S.Store tx.new.conn.now) }
-    ensures cause { IsCausedInside (IsHinderedToAddTables edition changes.now) result (state S.Store tx.old.conn.now) (state S.Store tx.new.conn.now) }
+    ensures step { Runs S.Store (adding_tables edition changes.now) result tx.old.conn.now tx.new.conn.now }
 {
     make_each(tx, beyond(edition))?;
     apply_all(tx, changes)
@@ -47,9 +45,7 @@ fn lift_edition<S: Alter>(
     changes: &[Change],
 ) -> Result<(), TableFault>
     ensures same_reference { tx.new.conn.ghost_name ≡ tx.old.conn.ghost_name }
-    ensures step { Does (HasStepped (LiftsEdition edition changes.now)) result (state S.Store tx.old.conn.now) (state S.Store tx.new.conn.now) }
-    ensures starved { IsStarvedInside result (state S.Store tx.old.conn.now) (state S.Store tx.new.conn.now) }
-    ensures cause { IsCausedInside (IsHinderedToMigrate edition changes.now) result (state S.Store tx.old.conn.now) (state S.Store tx.new.conn.now) }
+    ensures step { Steps S.Store (migrating edition changes.now) result tx.old.conn.now tx.new.conn.now }
 {
     enter(
         tx,
@@ -67,11 +63,14 @@ pub fn migrate<S: Alter>(
     edition: Edition,
     changes: &[Change],
 ) -> Result<(), StoreFault>
-    ensures ok { HasCleanDisk (state S.Store conn.new) → OnOk result (HasSaved (Rises edition changes.now) (state S.Store conn.old) (state S.Store conn.new)) }
+    ensures ok { HasCleanDisk (state S.Store conn.new)
+        → OnOk result (HasSaved (Rises edition changes.now) (state S.Store conn.old) (state S.Store conn.new)) }
     ensures err { HasCleanDisk (state S.Store conn.new) → OnErr result (IsKept (state S.Store conn.old) (state S.Store conn.new)) }
     ensures faults { result ≢ Err StoreFault.Damaged }
-    ensures cause { conn.old.in_transaction ≡ false → IsCaused StoreFault.Storage (IsHinderedToMigrate edition changes.now) result (state S.Store conn.old) (state S.Store conn.new) }
-    ensures crash { Survives (state S.Store conn.old) (state S.Store conn.new) (MayRecoverTo (Rises edition changes.now) (state S.Store conn.old)) }
+    ensures cause { conn.old.in_transaction ≡ false
+        → IsCaused StoreFault.Storage (IsHinderedToMigrate edition changes.now) result (state S.Store conn.old) (state S.Store conn.new) }
+    ensures crash { Survives (state S.Store conn.old) (state S.Store conn.new)
+        (MayRecoverTo (Rises edition changes.now) (state S.Store conn.old)) }
     ensures ended { conn.old.in_transaction ≡ false → conn.new.in_transaction ≡ false }
 {
     if !conn.is_autocommit() {

@@ -134,8 +134,10 @@ fn read_table<S: Alter>(
     conn: &mut Connection<S>,
     table: Table,
 ) -> Result<Vec<Row>, StoreFault>
-    ensures rows { HasCleanDisk (state S.Store conn.new) → IfOk result (λ rows. ReadsTable table rows.items (state S.Store conn.old) (state S.Store conn.new)) }
-    ensures damaged { HasCleanDisk (state S.Store conn.new) → result ≡ Err StoreFault.Damaged → IsTrue (state S.Store conn.old).is_open × HoldsNoRow table (state S.Store conn.old).now }
+    ensures rows { HasCleanDisk (state S.Store conn.new)
+        → IfOk result (λ rows. ReadsTable table rows.items (state S.Store conn.old) (state S.Store conn.new)) }
+    ensures damaged { HasCleanDisk (state S.Store conn.new) → result ≡ Err StoreFault.Damaged → IsTrue (state S.Store conn.old).is_open
+        × HoldsNoRow table (state S.Store conn.old).now }
     ensures rests { HasCleanDisk (state S.Store conn.new) → Rests (state S.Store conn.old) (state S.Store conn.new) }
     ensures cause { IsCaused StoreFault.Storage (IsUnread (table_at table)) result (state S.Store conn.old) (state S.Store conn.new) }
     ensures mode { conn.old.in_transaction ≡ false → conn.new.in_transaction ≡ false }
@@ -151,8 +153,10 @@ fn read_rows<S: Alter>(
     conn: &mut Connection<S>,
     edition: Edition,
 ) -> Result<Vec<Row>, StoreFault>
-    ensures rows { HasCleanDisk (state S.Store conn.new) → IfOk result (λ rows. ReadsAll (rolls_of edition) rows.items (state S.Store conn.old) (state S.Store conn.new)) }
-    ensures damaged { HasCleanDisk (state S.Store conn.new) → result ≡ Err StoreFault.Damaged → HoldsUnread (rolls_of edition) (state S.Store conn.old) }
+    ensures rows { HasCleanDisk (state S.Store conn.new)
+        → IfOk result (λ rows. ReadsAll (rolls_of edition) rows.items (state S.Store conn.old) (state S.Store conn.new)) }
+    ensures damaged { HasCleanDisk (state S.Store conn.new) → result ≡ Err StoreFault.Damaged
+        → HoldsUnread (rolls_of edition) (state S.Store conn.old) }
     ensures rests { HasCleanDisk (state S.Store conn.new) → Rests (state S.Store conn.old) (state S.Store conn.new) }
     ensures cause { IsCaused StoreFault.Storage (IsHinderedReadingIn edition) result (state S.Store conn.old) (state S.Store conn.new) }
     ensures mode { conn.old.in_transaction ≡ false → conn.new.in_transaction ≡ false }
@@ -173,9 +177,11 @@ fn rows_in<S: Alter>(
     conn: &mut Connection<S>,
     edition: Edition,
 ) -> Result<Vec<Row>, StoreFault>
-    ensures rows { HasCleanDisk (state S.Store conn.new) → IfOk result (λ rows. HoldsRows edition rows.items (state S.Store conn.old) (state S.Store conn.new)) }
+    ensures rows { HasCleanDisk (state S.Store conn.new)
+        → IfOk result (λ rows. HoldsRows edition rows.items (state S.Store conn.old) (state S.Store conn.new)) }
     ensures unlisted { (AreAllListed (rolls_of edition) (state S.Store conn.old).now.schema → ⊥) → result ≡ Err StoreFault.Damaged }
-    ensures damaged { HasCleanDisk (state S.Store conn.new) → result ≡ Err StoreFault.Damaged → IsUnfitIn edition (state S.Store conn.old).now }
+    ensures damaged { HasCleanDisk (state S.Store conn.new) → result ≡ Err StoreFault.Damaged
+        → IsUnfitIn edition (state S.Store conn.old).now }
     ensures rests { HasCleanDisk (state S.Store conn.new) → Rests (state S.Store conn.old) (state S.Store conn.new) }
     ensures cause { IsCaused StoreFault.Storage IsHinderedReading result (state S.Store conn.old) (state S.Store conn.new) }
     ensures mode { conn.old.in_transaction ≡ false → conn.new.in_transaction ≡ false }
@@ -206,10 +212,12 @@ pub fn office_in<S: Alter>(
     conn: &mut Connection<S>,
     edition: Edition,
 ) -> Result<(Office, Vec<Change>), StoreFault>
-    ensures ok { HasCleanDisk (state S.Store conn.new) → IfOk result (λ it. FindsOffice edition it.0 it.1.items (state S.Store conn.old) (state S.Store conn.new)) }
+    ensures ok { HasCleanDisk (state S.Store conn.new)
+        → IfOk result (λ it. FindsOffice edition it.0 it.1.items (state S.Store conn.old) (state S.Store conn.new)) }
     ensures same { HasCleanDisk (state S.Store conn.new) → OnOk result (IsUnchanged (state S.Store conn.old) (state S.Store conn.new)) }
     ensures unlisted { (AreAllListed (rolls_of edition) (state S.Store conn.old).now.schema → ⊥) → result ≡ Err StoreFault.Damaged }
-    ensures damaged { HasCleanDisk (state S.Store conn.new) → result ≡ Err StoreFault.Damaged → IsUnfitIn edition (state S.Store conn.old).now }
+    ensures damaged { HasCleanDisk (state S.Store conn.new) → result ≡ Err StoreFault.Damaged
+        → IsUnfitIn edition (state S.Store conn.old).now }
     ensures rests { HasCleanDisk (state S.Store conn.new) → Rests (state S.Store conn.old) (state S.Store conn.new) }
     ensures cause { IsCaused StoreFault.Storage IsHinderedReading result (state S.Store conn.old) (state S.Store conn.new) }
     ensures mode { conn.old.in_transaction ≡ false → conn.new.in_transaction ≡ false }

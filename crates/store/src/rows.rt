@@ -17,8 +17,10 @@ use std::alloc::Global;
 /// Returns the cell in a column, where it has one of this kind.
 fn cell_at(alloc: Global, columns: &Columns, at: usize, kind: Kind) -> Result<Cell, StoreFault>
     ensures cell { IfOk result (λ cell. (column columns.now at ≡ value_of cell) × (is_of kind cell ≡ true)) }
-    ensures damaged { result ≡ Err StoreFault.Damaged → (cell : AnyCell) → IsTyped cell → is_of kind cell ≡ true → column columns.now at ≢ value_of cell }
-    ensures memory { result ≡ Err StoreFault.Memory → (cell : AnyCell) × IsTyped cell × (is_of kind cell ≡ true) × (column columns.now at ≡ value_of cell) }
+    ensures damaged { result ≡ Err StoreFault.Damaged → (cell : AnyCell) → IsTyped cell → is_of kind cell ≡ true
+        → column columns.now at ≢ value_of cell }
+    ensures memory { result ≡ Err StoreFault.Memory → (cell : AnyCell) × IsTyped cell × (is_of kind cell ≡ true)
+        × (column columns.now at ≡ value_of cell) }
     ensures faults { result ≢ Err StoreFault.Storage }
 {
     let Ok(value) = columns.get_ref(at) else {

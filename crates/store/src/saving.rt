@@ -4,12 +4,11 @@ ghost use Rattle.std.specs.Prelude.{◌≡◌, ◌≢◌, IsTrue, false, OnOk, O
 ghost use Rattle.sqlite.specs.Effect.{IsDatabase};
 ghost use Rattle.sqlite.specs.State.{HasCleanDisk, Survives};
 ghost use Rattle.sqlite.specs.Held.{state};
-ghost use Rattle.tables.specs.Causes.{IsCaused, IsCausedInside, IsRunInside, IsStarvedInside};
-ghost use Rattle.tables.specs.Steps.{Does, HasSaved, HasStepped, IsKept, MayRecoverTo};
-ghost use Rattle.tables.specs.Inside.Steps.{Stays};
-ghost use Rattle.store.specs.Causes.{GoesThrough, IsHinderedAmong, IsHinderedChange};
-ghost use Rattle.store.specs.Saving.{Applies, AreActedOn, LeavesOthers, Saves};
-ghost use Rattle.store.specs.Inside.Saving.{AppliesOne};
+ghost use Rattle.tables.specs.Causes.{IsCaused};
+ghost use Rattle.tables.specs.Outcomes.{each_of};
+ghost use Rattle.tables.specs.Steps.{HasSaved, IsKept, MayRecoverTo, Steps};
+ghost use Rattle.tables.specs.Inside.Steps.{Runs};
+ghost use Rattle.store.specs.Causes.{IsHinderedAmong, applying};
 
 use crate::fault::StoreFault;
 use row_model::Change;
@@ -21,10 +20,7 @@ use tables::statements::{Entering, enter, leave};
 /// Makes one change.
 fn apply<S: Alter>(tx: &mut Transaction<'_, S>, change: &Change) -> Result<(), TableFault>
     ensures same_reference { tx.new.conn.ghost_name ≡ tx.old.conn.ghost_name }
-    ensures step { Does (HasStepped (AppliesOne change.now)) result (state S.Store tx.old.conn.now) (state S.Store tx.new.conn.now) }
-    ensures ran { IsRunInside (GoesThrough change.now) result (state S.Store tx.old.conn.now) (state S.Store tx.new.conn.now) }
-    ensures starved { IsStarvedInside result (state S.Store tx.old.conn.now) (state S.Store tx.new.conn.now) }
-    ensures cause { IsCausedInside (IsHinderedChange change.now) result (state S.Store tx.old.conn.now) (state S.Store tx.new.conn.now) }
+    ensures step { Steps S.Store (applying change.now) result tx.old.conn.now tx.new.conn.now }
 {
     match change {
         Change::Put(row) => enter(tx, Entering::InPlace, row.table(), row.cells()),
@@ -39,9 +35,7 @@ pub fn apply_all<S: Alter>(
     changes: &[Change],
 ) -> Result<(), TableFault>
     ensures same_reference { tx.new.conn.ghost_name ≡ tx.old.conn.ghost_name }
-    ensures step { Does (Stays (Applies changes.now)) result (state S.Store tx.old.conn.now) (state S.Store tx.new.conn.now) }
-    ensures starved { IsStarvedInside result (state S.Store tx.old.conn.now) (state S.Store tx.new.conn.now) }
-    ensures cause { IsCausedInside (IsHinderedAmong changes.now) result (state S.Store tx.old.conn.now) (state S.Store tx.new.conn.now) }
+    ensures step { Runs S.Store (each_of applying changes.now) result tx.old.conn.now tx.new.conn.now }
 {
     for change in changes {
         apply(tx, change)?;
@@ -51,11 +45,14 @@ pub fn apply_all<S: Alter>(
 
 /// Makes the changes in one transaction. A connection that a fault of the disk has shut is returned as a fault before it begins.
 pub fn save_all<S: Alter>(conn: &mut Connection<S>, changes: &[Change]) -> Result<(), StoreFault>
-    ensures ok { HasCleanDisk (state S.Store conn.new) → OnOk result (HasSaved (Applies changes.now) (state S.Store conn.old) (state S.Store conn.new)) }
+    ensures ok { HasCleanDisk (state S.Store conn.new)
+        → OnOk result (HasSaved (let all = each_of applying changes.now in all.does) (state S.Store conn.old) (state S.Store conn.new)) }
     ensures err { HasCleanDisk (state S.Store conn.new) → OnErr result (IsKept (state S.Store conn.old) (state S.Store conn.new)) }
     ensures faults { result ≢ Err StoreFault.Damaged }
-    ensures cause { conn.old.in_transaction ≡ false → IsCaused StoreFault.Storage (IsHinderedAmong changes.now) result (state S.Store conn.old) (state S.Store conn.new) }
-    ensures crash { Survives (state S.Store conn.old) (state S.Store conn.new) (MayRecoverTo (Applies changes.now) (state S.Store conn.old)) }
+    ensures cause { conn.old.in_transaction ≡ false
+        → IsCaused StoreFault.Storage (IsHinderedAmong changes.now) result (state S.Store conn.old) (state S.Store conn.new) }
+    ensures crash { Survives (state S.Store conn.old) (state S.Store conn.new)
+        (MayRecoverTo (let all = each_of applying changes.now in all.does) (state S.Store conn.old)) }
     ensures ended { conn.old.in_transaction ≡ false → conn.new.in_transaction ≡ false }
     ensures begun { IsTrue conn.old.in_transaction → result ≡ Err StoreFault.Storage }
 {

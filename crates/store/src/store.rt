@@ -54,7 +54,8 @@ fn open_new<S: Alter>(alloc: Global, conn: &mut Connection<S>) -> Result<Office,
     requires idle { conn.old.in_transaction ≡ false }
     requires none { HasNone (state S.Store conn.old).now.schema }
     ensures opened { IfOk result (IsOpening S.Store conn.old conn.new) }
-    ensures unopened { IfErr result (λ fault. IsLeftUnopened S.Store (fault ≡ StoreFault.Storage) (fault ≡ StoreFault.Damaged) conn.old conn.new) }
+    ensures unopened { IfErr result (λ fault.
+        IsLeftUnopened S.Store (fault ≡ StoreFault.Storage) (fault ≡ StoreFault.Damaged) conn.old conn.new) }
 {
     create_tables(conn)?;
     Ok(Office::new(alloc))
@@ -66,7 +67,8 @@ fn open_latest<S: Alter>(alloc: Global, conn: &mut Connection<S>) -> Result<Offi
     requires whole { IsTrue (state S.Store conn.old).is_open → (state S.Store conn.old).now ≡ (state S.Store conn.old).committed }
     requires edition { IsEditionOf latest (state S.Store conn.old).now.schema }
     ensures opened { IfOk result (IsOpening S.Store conn.old conn.new) }
-    ensures unopened { IfErr result (λ fault. IsLeftUnopened S.Store (fault ≡ StoreFault.Storage) (fault ≡ StoreFault.Damaged) conn.old conn.new) }
+    ensures unopened { IfErr result (λ fault.
+        IsLeftUnopened S.Store (fault ≡ StoreFault.Storage) (fault ≡ StoreFault.Damaged) conn.old conn.new) }
     ensures unlisted { (AreListed (state S.Store conn.old).now.schema → ⊥) → result ≡ Err StoreFault.Damaged }
 {
     // There are no changes: nothing of the latest edition is migrated.
@@ -85,7 +87,8 @@ fn open_earlier<S: Alter>(
     requires edition { IsEditionOf edition (state S.Store conn.old).now.schema }
     requires earlier { IsEarlier edition }
     ensures opened { IfOk result (IsOpening S.Store conn.old conn.new) }
-    ensures unopened { IfErr result (λ fault. IsLeftUnopened S.Store (fault ≡ StoreFault.Storage) (fault ≡ StoreFault.Damaged) conn.old conn.new) }
+    ensures unopened { IfErr result (λ fault.
+        IsLeftUnopened S.Store (fault ≡ StoreFault.Storage) (fault ≡ StoreFault.Damaged) conn.old conn.new) }
     ensures unlisted { (AreListed (state S.Store conn.old).now.schema → ⊥) → result ≡ Err StoreFault.Damaged }
 {
     let (migrated, changes) = office_in(alloc, conn, edition)?;
@@ -96,9 +99,11 @@ fn open_earlier<S: Alter>(
 /// Returns the office of the tables, which are made where none of them is there.
 fn open_tables<S: Alter>(alloc: Global, conn: &mut Connection<S>) -> Result<Office, StoreFault>
     ensures opened { IfOk result (IsOpening S.Store conn.old conn.new) }
-    ensures unopened { IfErr result (λ fault. IsLeftUnopened S.Store (fault ≡ StoreFault.Storage) (fault ≡ StoreFault.Damaged) conn.old conn.new) }
+    ensures unopened { IfErr result (λ fault.
+        IsLeftUnopened S.Store (fault ≡ StoreFault.Storage) (fault ≡ StoreFault.Damaged) conn.old conn.new) }
     ensures begun { IsTrue conn.old.in_transaction → result ≡ Err StoreFault.Storage }
-    ensures unlisted { conn.old.in_transaction ≡ false → (HasNone (state S.Store conn.old).now.schema → ⊥) → (AreListed (state S.Store conn.old).now.schema → ⊥) → result ≡ Err StoreFault.Damaged }
+    ensures unlisted { conn.old.in_transaction ≡ false → (HasNone (state S.Store conn.old).now.schema → ⊥)
+        → (AreListed (state S.Store conn.old).now.schema → ⊥) → result ≡ Err StoreFault.Damaged }
 {
     // A fault, and no condition on the caller, who may not know what a connection has begun.
     if !conn.is_autocommit() {
@@ -124,13 +129,15 @@ impl<S: Alter> Store<S> {
         mut conn: Connection<S>,
     ) -> Result<(Store<S>, Office), (StoreFault, Connection<S>)>
         ensures opened { IfOk result (λ it. IsOpening S.Store conn it.0 it.1) }
-        ensures unopened { IfErr result (λ it. let fault = it.0 in IsLeftUnopened S.Store (fault ≡ StoreFault.Storage) (fault ≡ StoreFault.Damaged) conn it.1) }
+        ensures unopened { IfErr result (λ it.
+            let fault = it.0 in IsLeftUnopened S.Store (fault ≡ StoreFault.Storage) (fault ≡ StoreFault.Damaged) conn it.1) }
 
         // Where a transaction is open already it is not out of memory, and no damage.
         ensures begun { IsTrue conn.in_transaction → IsErr result × IfErr result (λ it. it.0 ≡ StoreFault.Storage) }
 
         // Tables that are there and are not listed as they are made here are damaged.
-        ensures unlisted { conn.in_transaction ≡ false → (HasNone (state S.Store conn).now.schema → ⊥) → (AreListed (state S.Store conn).now.schema → ⊥) → IsErr result × IfErr result (λ it. it.0 ≡ StoreFault.Damaged) }
+        ensures unlisted { conn.in_transaction ≡ false → (HasNone (state S.Store conn).now.schema → ⊥)
+            → (AreListed (state S.Store conn).now.schema → ⊥) → IsErr result × IfErr result (λ it. it.0 ≡ StoreFault.Damaged) }
     {
         match open_tables(alloc, &mut conn) {
             Ok(office) => Ok((Store { conn, alloc }, office)),
@@ -141,10 +148,12 @@ impl<S: Alter> Store<S> {
     /// Reads the office from its tables.
     pub fn load(&mut self) -> Result<Office, StoreFault>
         ensures ok { HasCleanDisk (state S.Store self.new) → IfOk result (StandsFor (state S.Store self.old).now) }
-        ensures unlisted { self.old.in_transaction ≡ false → (AreListed (state S.Store self.old).now.schema → ⊥) → result ≡ Err StoreFault.Damaged }
+        ensures unlisted { self.old.in_transaction ≡ false → (AreListed (state S.Store self.old).now.schema → ⊥)
+            → result ≡ Err StoreFault.Damaged }
         ensures damaged { HasCleanDisk (state S.Store self.new) → result ≡ Err StoreFault.Damaged → IsUnfit (state S.Store self.old).now }
         ensures kept { HasCleanDisk (state S.Store self.new) → IsKept (state S.Store self.old) (state S.Store self.new) }
-        ensures cause { self.old.in_transaction ≡ false → IsCaused StoreFault.Storage IsHinderedReading result (state S.Store self.old) (state S.Store self.new) }
+        ensures cause { self.old.in_transaction ≡ false
+            → IsCaused StoreFault.Storage IsHinderedReading result (state S.Store self.old) (state S.Store self.new) }
 
         // A crash at any moment of the call.
         ensures crash { Survives (state S.Store self.old) (state S.Store self.new) (λ _. ⊥) }
@@ -162,7 +171,8 @@ impl<S: Alter> Store<S> {
 
     /// Makes the changes in one transaction, which touches only the rows that they name.
     pub fn save(&mut self, changes: &[Change]) -> Result<(), StoreFault>
-        ensures saved { HasCleanDisk (state S.Store self.new) → OnOk result (IsSaving changes.now (state S.Store self.old) (state S.Store self.new)) }
+        ensures saved { HasCleanDisk (state S.Store self.new)
+            → OnOk result (IsSaving changes.now (state S.Store self.old) (state S.Store self.new)) }
         ensures err { HasCleanDisk (state S.Store self.new) → OnErr result (IsKept (state S.Store self.old) (state S.Store self.new)) }
         ensures faults { result ≢ Err StoreFault.Damaged }
 
@@ -170,10 +180,12 @@ impl<S: Alter> Store<S> {
         ensures acted_on { AreActedOn (state S.Store self.old).now.schema → result ≡ Err StoreFault.Storage }
 
         // Why else the storage has failed, but for an open transaction: a shut connection, a fault of the disk, or a refused statement.
-        ensures cause { self.old.in_transaction ≡ false → (AreActedOn (state S.Store self.old).now.schema → ⊥) → IsCaused StoreFault.Storage (IsHinderedAmong changes.now) result (state S.Store self.old) (state S.Store self.new) }
+        ensures cause { self.old.in_transaction ≡ false → (AreActedOn (state S.Store self.old).now.schema → ⊥)
+            → IsCaused StoreFault.Storage (IsHinderedAmong changes.now) result (state S.Store self.old) (state S.Store self.new) }
 
         // A crash at any moment of the call.
-        ensures crash { Survives (state S.Store self.old) (state S.Store self.new) (MayRecoverTo (Saves changes.now) (state S.Store self.old)) }
+        ensures crash { Survives (state S.Store self.old) (state S.Store self.new)
+            (MayRecoverTo (Saves changes.now) (state S.Store self.old)) }
         ensures ended { self.old.in_transaction ≡ false → self.new.in_transaction ≡ false }
 
         // Where a transaction is open already.

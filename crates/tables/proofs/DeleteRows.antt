@@ -43,29 +43,3 @@ module _ (sql : List ℕ) (shape : TableShape) (kinds : List Kind) (goes : Row �
   -- the text is that of a write
   pub delete_writes : IsWriteText sql
   delete_writes = drafted_writes sql shape _ _ Delete it.drafted (λ at q. tt)
-
-  -- a DELETE that went through took out the rows that its parameters find, and nothing else
-  pub delete_removes : (old new : State) (given : Cells) (count : ℕ) → are_of kinds given ≡ true → let key = values given in Executes sql key old new (Ok count) → Removes (made_at shape) (goes key) old.now new.now
-  unfolding Removes
-  delete_removes old new given count is ran place rows inert stands =
-      let key = values given in
-      let t = made_at shape place in
-      let listed = stands.listed in
-      let here = old.now.trees place.tree in
-      let finds = hit (it.tests place.rules.is_strict) (col 1 0 ∷ []) key in
-      let q = found_program place.tree (it.tests place.rules.is_strict) (col 1 0 ∷ []) in
-      let w = runs_by sql key old new count (Delete listed.at q) sql (drafted_means sql shape _ _ Delete it.drafted old.now.schema place _ _ listed (it.draft old.now.schema listed.at place (has_listed old.now.schema t listed))) ran in
-      let done = delete_does old.step_limit (mode_of old) key old.now new.now sql listed.at t q w.tally listed.there (λ olds. inert olds []) w.changed in
-      let got = found (it.tests place.rules.is_strict) (col 1 0 ∷ []) key old.now place.tree done.1 done.2 in
-      let ids : IsPermutation (map id_of (filter finds here)) (ids_of done.1) =
-      subst (λ all. IsPermutation all (ids_of done.1)) (map-map (λ (r : Row). id_in (rowid r)) (λ (r : Row). rowid r ∷ []) (filter finds here)) (IsPermutation-map (λ (r : Row). id_in (rowid r)) _ _ got) in
-      let left : new.now.trees place.tree ≡ filter (λ r. not (finds r)) here = done.3.rows ∙ taken_out finds here (ids_of done.1) stands.keyed ids in
-      let shown : map (cells t) (filter (λ r. not (finds r)) here) ≡ filter (λ v. not (goes key v)) (map (cells t) here) =
-      map_filter (cells t) (λ r. not (finds r)) (λ v. not (goes key v)) (λ r. ap not (it.hits place given is r)) here in (
-        record {
-          listed = listed_along old.now.schema new.now.schema t done.0 listed;
-          keyed = subst IsKeyed (sym left) (still_keyed (λ r. not (finds r)) here stands.keyed);
-          holds = subst (λ all. IsPermutation (filter (λ v. not (goes key v)) rows) all) (sym (ap (map (cells t)) left ∙ shown)) (IsPermutation-filter (λ v. not (goes key v)) _ _ stands.holds);
-        },
-        record { schema = done.0; others = done.3.tables },
-      )

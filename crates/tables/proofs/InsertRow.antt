@@ -12,10 +12,6 @@ use Rattle.tables.proofs.InsertKeyed.{insert_does, insert_edit}
 use Rattle.tables.proofs.Puts.{put_row_permutes}
 use Rattle.tables.proofs.Rowids.{keyed_put}
 
-not_true : (b : Bool) → (not b && true) ≡ true → b ≡ false
-not_true true e = absurd (cc)
-not_true false e = refl
-
 either : (b : Bool) (x : Value) → cond b x x ≡ x
 either true x = refl
 either false x = refl
@@ -66,7 +62,6 @@ pub record IsGiven (made : Table) (params : Row) (terms : List Term) (width : �
   pub is : source ≡ laid_out Null made.key given
   pub cast : cast_row made source ≡ source
   pub one : value_rows params width (length terms / width) terms ≡ source ∷ []
-  pub shown : (here : List Row) → cells made (with_rowid Chosen here (cast_row made source)) ≡ given
 
 -- The text of an INSERT of one row of terms, read under a table of this shape alone, and the row that it adds: that of its
 -- parameters, where those are of these kinds.
@@ -130,27 +125,3 @@ module _ (sql : List ℕ) (shape : TableShape) (kinds : List Kind) (it : IsInser
   -- the text is that of a write
   pub insert_writes : IsWriteText sql
   insert_writes = compiles_to_write sql it.p it.parsed (λ schema base k h. insert_command schema base k (rw (it.plain, it.statement) at h))
-
-  -- an INSERT that went through added the row of its parameters, and nothing else
-  pub inserts : (old new : State) (row : Cells) (count : ℕ) → are_of kinds row ≡ true → let given = sql_values row in Executes sql given old new (Ok count) → Adds (made_at shape) given old.now new.now
-  inserts old new row count fits ran place rows stands =
-      let given = sql_values row in
-      let is = it.given place row fits in
-      let t : Table = made_at shape place in
-      let w = runs_by sql given old new count (Insert stands.listed.at (Values it.terms it.width)) sql
-      (insert_means sql shape kinds it old.now.schema stands.listed.at place (has_listed old.now.schema t stands.listed)) ran in
-      let done = insert_does old.step_limit (mode_of old) given old.now new.now sql stands.listed.at t it.terms it.width w.tally stands.listed.there w.changed in
-      let applies : Applies old.now.schema Enforced old.now.trees (insert_edit old.now t (is.source ∷ [])) new.now.trees =
-      subst (λ all. Applies old.now.schema Enforced old.now.trees (insert_edit old.now t all) new.now.trees) is.one done.1 in
-      let here = old.now.trees place.tree in
-      let made = with_rowid Chosen here (cast_row t is.source) in
-      let free : is_taken here made ≡ false = not_true _ applies.fresh in
-      let grown = IsPermutation-trans _ _ _ (IsPermutation-cons given rows _ stands.holds)
-      (subst (λ first. IsPermutation (first ∷ map (cells t) here) (map (cells t) (put_row made here))) (is.shown here) (IsPermutation-map (cells t) _ _ (put_row_permutes made here free))) in (
-        record {
-          listed = listed_along old.now.schema new.now.schema t done.0 stands.listed;
-          keyed = subst IsKeyed (sym applies.rows) (keyed_put made here (and_parts _ _ applies.keyed).0 free stands.keyed);
-          holds = subst (λ all. IsPermutation (given ∷ rows) (map (cells t) all)) (sym applies.rows) grown;
-        },
-        record { schema = done.0; others = applies.tables },
-      )

@@ -1,10 +1,12 @@
 -- The one edit of a statement of a table: the one that it makes, and the one for which it is refused.
-use Rattle.std.proofs.Common.{◌≡◌, ℕ, List, [], ◌∷◌, filter, map, take, find, ◌==◌, ◌^◌, nat_le, nat_lt, Option, Some, Ok, Bool, true, false, refl, ap, subst, ◌∙◌, arith}
+use Rattle.std.proofs.Common.{◌≡◌, ℕ, List, [], ◌∷◌, filter, map, take, find, ◌==◌, ◌^◌, nat_le, nat_lt, Option, Some, Ok, Bool, true, false, refl, ap, subst, ◌∙◌, arith, None}
 use Rattle.tables.proofs.Common.{nat_tests, IsPermutation, IsPermutation-cons, IsPermutation-middle, IsPermutation-refl, IsPermutation-trans, along_permutation, filter_same, map-map, AnyTable, Row, Term, col, rowid, Edit, edit_of, id_in, with_rowid, Chosen, Given, Answers, Database, IsDatabase, Insert, Update, Delete, Values, State, Executes, mode_of, ids_of, Has, all_has, Kind, Cells, are_of, Lists, Place, TableShape, cells, made_at, sql_values, Stands, begins_with, IsMade, IsRefusedIn, OfChange, OfRow, adding, changing, replacing, IsHindered}
 use Rattle.sqlite.specs.Term.{eval_all}
+use Rattle.tables.specs.Causes.{CanFind}
 use Rattle.tables.proofs.InsertRow.{IsInsert, has_listed, insert_means, insert_text}
 use Rattle.tables.proofs.InsertKeyed.{insert_does, insert_edit}
-use Rattle.tables.proofs.UpdateRow.{IsUpdate, map_same, numbered_given, remade, showing, update_does}
+use Rattle.tables.proofs.Made.{map_same}
+use Rattle.tables.proofs.UpdateRow.{IsUpdate, numbered_given, remade, showing, update_does}
 use Rattle.tables.proofs.DeleteRows.{IsDelete, delete_does}
 use Rattle.tables.proofs.QueryRows.{drafted_means, drafted_text, found, hit}
 use Rattle.tables.proofs.SelectAll.{IsFirst, found_program}
@@ -28,7 +30,7 @@ module _ (sql : List ℕ) (shape : TableShape) (kinds : List Kind) (it : IsInser
       subst (λ (stored : Row). P (record { table = t; gone = []; news = with_rowid Chosen (db.trees place.tree) stored ∷ [] })) (is.cast ∙ is.is) h
 
   -- it is the one that is refused
-  pub insert_refused : (limit : Option ℕ) (db : Database) → IsHindered sql given limit db → OfRow (made_at shape) given (IsRefusedIn db) limit db
+  pub insert_refused : (limit : Option ℕ) (db : Database) → IsHindered sql given limit db → limit ≡ None → OfRow (made_at shape) given (IsRefusedIn db) db
   insert_refused limit db hindered none place listed =
       let t = made_at shape place in
       let text = insert_text sql shape kinds it db.schema listed.at place (has_listed db.schema t listed) row fits in
@@ -37,8 +39,8 @@ module _ (sql : List ℕ) (shape : TableShape) (kinds : List Kind) (it : IsInser
       at_row db place (IsRefusedIn db) (subst (λ all. IsRefusedIn db (insert_edit db t all)) (it.given place row fits).one stopped)
 
   -- or the one that was made
-  pub insert_made : (old new : State) (count : ℕ) → Executes sql given old new (Ok count) → OfRow (made_at shape) given (IsMade old.now new.now) old.step_limit old.now
-  insert_made old new count ran none place listed =
+  pub insert_made : (old new : State) (count : ℕ) → Executes sql given old new (Ok count) → OfRow (made_at shape) given (IsMade old.now new.now) old.now
+  insert_made old new count ran place listed =
       let t = made_at shape place in
       let w = runs_by sql given old new count (Insert listed.at (Values it.terms it.width)) sql (insert_means sql shape kinds it old.now.schema listed.at place (has_listed old.now.schema t listed)) ran in
       let done = insert_does old.step_limit (mode_of old) given old.now new.now sql listed.at t it.terms it.width w.tally listed.there w.changed in
@@ -116,20 +118,20 @@ module _ (sql : List ℕ) (shape : TableShape) (kinds : List Kind) (width : ℕ)
         )
 
   -- it is the one that is refused
-  pub update_refused : (limit : Option ℕ) (db : Database) → IsHindered sql row limit db → OfChange (made_at shape) (begins_with key) (λ t. map (replacing t row)) (IsRefusedIn db) limit db
-  update_refused limit db hindered none sound place rows inert stands first =
+  pub update_refused : (limit : Option ℕ) (db : Database) → IsHindered sql row limit db → CanFind (made_at shape) limit db → OfChange (made_at shape) (begins_with key) (λ t. map (replacing t row)) (IsRefusedIn db) db
+  update_refused limit db hindered may place rows inert stands =
       let t = made_at shape place in
       let listed = stands.listed in
       let tests = it.tests place.rules.is_strict in
-      let types = it.accepted db.schema place (is_first db t sound listed first) in
+      let types = it.accepted db.schema place (is_first db t may.1 listed (may.2 place listed)) in
       let text = drafted_text sql shape _ _ Update it.drafted db.schema place tests (showing it.values) listed (it.draft db.schema listed.at place (has_listed db.schema t listed)) types.0 row (it.counted given is) tt in
-      let ends = subst (λ l. IsHindered sql row l db) none hindered _ text in
+      let ends = subst (λ l. IsHindered sql row l db) may.0 hindered _ text in
       let stopped = update_stops row db sql listed.at t place.tree tests (showing it.values) listed.there inert (types.1 given is) ends.0 ends.1 in
       at_rows db place rows stands stopped.0 stopped.1 (IsRefusedIn db) stopped.2
 
   -- or the one that was made
-  pub update_made : (old new : State) (count : ℕ) → Executes sql row old new (Ok count) → OfChange (made_at shape) (begins_with key) (λ t. map (replacing t row)) (IsMade old.now new.now) old.step_limit old.now
-  update_made old new count ran none sound place rows inert stands first =
+  pub update_made : (old new : State) (count : ℕ) → Executes sql row old new (Ok count) → OfChange (made_at shape) (begins_with key) (λ t. map (replacing t row)) (IsMade old.now new.now) old.now
+  update_made old new count ran place rows inert stands =
       let t = made_at shape place in
       let listed = stands.listed in
       let q = found_program place.tree (it.tests place.rules.is_strict) (showing it.values) in
@@ -157,20 +159,20 @@ module _ (sql : List ℕ) (shape : TableShape) (kinds : List Kind) (goes : Row �
       )
 
   -- it is the one that is refused
-  pub delete_refused : (limit : Option ℕ) (db : Database) → IsHindered sql shared limit db → OfChange (made_at shape) (goes shared) (λ _ _. []) (IsRefusedIn db) limit db
-  delete_refused limit db hindered none sound place rows inert stands first =
+  pub delete_refused : (limit : Option ℕ) (db : Database) → IsHindered sql shared limit db → CanFind (made_at shape) limit db → OfChange (made_at shape) (goes shared) (λ _ _. []) (IsRefusedIn db) db
+  delete_refused limit db hindered may place rows inert stands =
       let t = made_at shape place in
       let listed = stands.listed in
       let tests = it.tests place.rules.is_strict in
-      let types = it.accepted db.schema place (is_first db t sound listed first) in
+      let types = it.accepted db.schema place (is_first db t may.1 listed (may.2 place listed)) in
       let text = drafted_text sql shape _ _ Delete it.drafted db.schema place tests (col 1 0 ∷ []) listed (it.draft db.schema listed.at place (has_listed db.schema t listed)) types.0 shared (it.counted given is) tt in
-      let ends = subst (λ l. IsHindered sql shared l db) none hindered _ text in
+      let ends = subst (λ l. IsHindered sql shared l db) may.0 hindered _ text in
       let stopped = delete_stops shared db sql listed.at t place.tree tests (col 1 0 ∷ []) listed.there inert (types.1 given is) ends.0 ends.1 in
       at_gone db place stopped.0 stopped.1 (IsRefusedIn db) stopped.2
 
   -- or the one that was made
-  pub delete_made : (old new : State) (count : ℕ) → Executes sql shared old new (Ok count) → OfChange (made_at shape) (goes shared) (λ _ _. []) (IsMade old.now new.now) old.step_limit old.now
-  delete_made old new count ran none sound place rows inert stands first =
+  pub delete_made : (old new : State) (count : ℕ) → Executes sql shared old new (Ok count) → OfChange (made_at shape) (goes shared) (λ _ _. []) (IsMade old.now new.now) old.now
+  delete_made old new count ran place rows inert stands =
       let t = made_at shape place in
       let listed = stands.listed in
       let q = found_program place.tree (it.tests place.rules.is_strict) (col 1 0 ∷ []) in

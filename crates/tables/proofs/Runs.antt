@@ -1,8 +1,10 @@
 -- Statements one after the other, and what they leave alone.
-use Rattle.std.proofs.Common.{◌≡◌, ◌≢◌, ◌⊎◌, inl, inr, arith, ℕ, List, [], ◌∷◌, refl, sym, subst, ◌∙◌, IsTrue, true, false, Bool, map, ap, ◌<◌, ◌^◌, nat_lt, Option, Some, slice_get, Result, Ok, Err}
-use Rattle.tables.proofs.Common.{AllZip, Decides-ltb, table_named, IsSound, IsTableRow, Has, IsPermutation, Row, Schema, Table, Database, State, HasCleanDisk, KeepsCommit, Executes, Survives, survives_then, Trees, all_has, has_got, Ours, Place, Rules, Lists, cells, table_at, same_table, cases_Bool, IsKeyed, Stands, WritesOnly, Creates, HasStepped, IsPart, Rests, HasRun, Stays}
+use Rattle.std.proofs.Common.{◌≡◌, ◌≢◌, ◌⊎◌, inl, inr, arith, ℕ, List, [], ◌∷◌, refl, sym, subst, ◌∙◌, IsTrue, true, false, Bool, map, ap, ◌<◌, ◌^◌, nat_lt, Option, Some, slice_get, Result, Ok, Err, IfOk, IsErrAnd}
+use Rattle.tables.proofs.Common.{AllZip, Decides-ltb, table_named, IsSound, IsTableRow, Has, IsPermutation, Row, Schema, Table, Database, State, HasCleanDisk, KeepsCommit, Executes, Survives, survives_then, Trees, all_has, has_got, Ours, Place, Rules, Lists, cells, table_at, same_table, cases_Bool, IsKeyed, Stands, WritesOnly, Creates, HasStepped, IsPart, Rests, HasRun, Stays, TableFault, Memory, Storage}
 pub use Rattle.row_model.proofs.Tables.{same_table_is, same_table_self}
-use Rattle.tables.specs.Steps.{Does}
+use Rattle.tables.proofs.Causes.{stopped_after, stopped_as}
+use Rattle.std.proofs.lemmas.Result.{err_from_is_err_and}
+use Rattle.tables.proofs.Starved.{lacks_after}
 use Rattle.tables.proofs.Places.{listed_along}
 use Rattle.tables.proofs.Understood.{IsWriteText, written_sound}
 
@@ -39,16 +41,6 @@ both_open false b p q = absurd (cc)
 -- nothing was done
 pub stays_none : (P : Database → Database → Type 0) (s : State) → P s.now s.now → Stays P s s
 stays_none P s p = record { shut = refl; committed = refl; mode = refl; sound = λ is. is; step = p }
-
--- one statement more
-pub stays_then : (P Q R : Database → Database → Type 0) (a b c : State) → (P a.now b.now → Q b.now c.now → R a.now c.now) → Stays P a b → HasStepped Q b c → Stays R a c
-stays_then P Q R a b c both p q = record {
-  shut = both_open b.is_open c.is_open q.shown.was_open q.shown.is_open ∙ p.shut;
-  committed = q.shown.committed_is ∙ p.committed;
-  mode = q.shown.mode ∙ sym q.inside ∙ p.mode;
-  sound = λ _. q.sound;
-  step = both p.step q.step;
-}
 
 -- the same statement, in a weaker word
 pub stepped_as : (P Q : Database → Database → Type 0) (a b : State) → (P a.now b.now → Q a.now b.now) → HasStepped P a b → HasStepped Q a b
@@ -107,13 +99,23 @@ pub stepped_by : (P : Database → Database → Type 0) (sql : List ℕ) (params
 stepped_by P sql params count old new writes does it = record { inside = it.inside; shown = it.shown; sound = written_sound sql params old new count writes it.ran; step = does it.ran }
 
 -- a call that did one thing did another
-pub part_ok : {A B E F : Type 0} (Q : A → State → State → Type 0) (R : B → State → State → Type 0) (a : A) (b : B) (old new : State) → (Q a old new → R b old new) → IsPart {E = E} Q (Ok a) old new → IsPart {E = F} R (Ok b) old new
-part_ok Q R a b old new weaker it = record { survives = it.survives; did = λ clean. weaker (it.did clean); kept = it.kept }
+pub part_ok : {A B : Type 0} (P : A → State → State → Type 0) (Q : B → State → State → Type 0) (H K : Option ℕ → Database → Type 0) (x : A) (y : B) (a b : State) → (P x a b → Q y a b) → IsPart P H (Ok x) a b → IsPart Q K (Ok y) a b
+part_ok P Q H K x y a b does it = record { survives = it.survives; did = λ clean. does (it.did clean); kept = it.kept; starved = λ clean inside is. absurd (cc); cause = λ inside clean is. absurd (cc) }
 
--- the same of one that may have failed
-pub part_as : {A E : Type 0} (Q R : A → State → State → Type 0) (r : Result A E) (old new : State) → ((a : A) → Q a old new → R a old new) → IsPart Q r old new → IsPart R r old new
-part_as Q R (Ok a) old new weaker it = record { survives = it.survives; did = λ clean. weaker a (it.did clean); kept = it.kept }
-part_as Q R (Err e) old new weaker it = record { survives = it.survives; did = it.did; kept = it.kept }
+-- what hindered it hinders another
+failed_so : {A B : Type 0} (P : A → State → State → Type 0) (Q : B → State → State → Type 0) (H K : Option ℕ → Database → Type 0) (e : TableFault) (a b : State) → ((limit : Option ℕ) (db : Database) → H limit db → K limit db) → IsPart P H (Err e) a b → IsPart Q K (Err e) a b
+failed_so P Q H K e a b hinders it = record {
+  survives = it.survives;
+  did = λ clean. tt;
+  kept = it.kept;
+  starved = λ clean inside is. let same : e ≡ Memory = cc in it.starved clean inside (ap Err same);
+  cause = λ inside clean is. let same : e ≡ Storage = cc in stopped_as H K a b (hinders a.step_limit a.now) (it.cause inside clean (ap Err same));
+}
+
+-- so it does where its fault is handed on
+pub part_err : {A B : Type 0} (P : A → State → State → Type 0) (Q : B → State → State → Type 0) (H K : Option ℕ → Database → Type 0) (e : TableFault) (a b : State) (r : Result B TableFault) → IsErrAnd r (λ f. f ≡ e) → ((limit : Option ℕ) (db : Database) → H limit db → K limit db)
+    → IsPart P H (Err e) a b → IsPart Q K r a b
+part_err P Q H K e a b r is hinders it = let f = err_from_is_err_and r is in subst (λ r. IsPart Q K r a b) (sym (f.1 ∙ ap Err f.2)) (failed_so P Q H K e a b hinders it)
 
 both_kept : (a b c : State) → (HasCleanDisk c → HasCleanDisk b) → (HasCleanDisk b → KeepsCommit a b) → (HasCleanDisk c → KeepsCommit b c) → HasCleanDisk c → KeepsCommit a c
 both_kept a b c early p q clean =
@@ -125,15 +127,34 @@ both_kept a b c early p q clean =
 pub survives_both : (a b c : State) → Survives a b (λ _. ⊥) → Survives b c (λ _. ⊥) → Survives a c (λ _. ⊥)
 survives_both a b c = survives_then a b c (λ _. ⊥) (λ _. ⊥) (λ _. ⊥) (λ _ db none. none) (λ _ db none. none)
 
-module _ {A B E F : Type 0} (Q : A → State → State → Type 0) (R P : B → State → State → Type 0) (a b c : State) where
-  -- one call after another
-  pub part_then : (x : A) (r : Result B E) → ((y : B) → Q x a b → R y b c → P y a c) → IsPart {E = F} Q (Ok x) a b → IsPart R r b c → IsPart P r a c
-  part_then x (Ok y) both p q =
-      let early : HasCleanDisk c → HasCleanDisk b = λ clean. omega (arith, q.survives.clean) in
-      record { survives = survives_both a b c p.survives q.survives; did = λ clean. both y (p.did (early clean)) (q.did clean); kept = both_kept a b c early p.kept q.kept }
-  part_then x (Err e) both p q =
-      let early : HasCleanDisk c → HasCleanDisk b = λ clean. omega (arith, q.survives.clean) in
-      record { survives = survives_both a b c p.survives q.survives; did = q.did; kept = both_kept a b c early p.kept q.kept }
+-- one call after another: the first left what was committed, and the transaction open
+module _ {A B : Type 0} (P : A → State → State → Type 0) (Q R : B → State → State → Type 0) (H G K : Option ℕ → Database → Type 0) (a b c : State) where
+  pub part_then : (x : A) (r : Result B TableFault) → (P x a b → (b.committed ≡ a.committed) × (a.in_transaction ≡ true → b.in_transaction ≡ true)) → ((y : B) → P x a b → Q y b c → R y a c)
+      → (P x a b → (limit : Option ℕ) → G limit b.now → K limit a.now) → IsPart P H (Ok x) a b → IsPart Q G r b c → IsPart R K r a c
+  part_then x r keeps both hinders p q = record {
+    survives = survives_both a b c p.survives q.survives;
+    did = did r q.did;
+    kept = both_kept a b c early p.kept q.kept;
+    starved = λ clean inside is. let k = keeps (p.did (early clean)) in lacks_after a b c k.0 (q.starved clean (k.1 inside) is);
+    cause = λ inside clean is.
+        let done = p.did (early clean) in
+        stopped_after G K a b c p.survives (early clean) q.survives.counts (hinders done a.step_limit) (q.cause ((keeps done).1 inside) clean is);
+  }
+    where
+      early : HasCleanDisk c → HasCleanDisk b
+      early clean = omega (arith, q.survives.clean)
+
+      did : (r : Result B TableFault) → (HasCleanDisk c → IfOk r (λ y. Q y b c)) → HasCleanDisk c → IfOk r (λ y. R y a c)
+      did (Ok y) then clean = both y (p.did (early clean)) (then clean)
+      did (Err e) then clean = tt
+
+-- what a statement leaves, as a run
+pub stays_so : (P : Database → Database → Type 0) (a b : State) → HasStepped P a b → Stays P a b
+stays_so P a b p = record { shut = both_open a.is_open b.is_open p.shown.was_open p.shown.is_open; committed = p.shown.committed_is; mode = p.shown.mode ∙ sym p.inside; sound = λ _. p.sound; step = p.step }
+
+-- a run of statements leaves what was committed, and the transaction open
+pub stays_keeps : (P : Database → Database → Type 0) (a b : State) → Stays P a b → (b.committed ≡ a.committed) × (a.in_transaction ≡ true → b.in_transaction ≡ true)
+stays_keeps P a b p = (p.committed, λ inside. p.mode ∙ inside)
 
 -- a run of statements, and then one more
 pub stays_stepped : (P Q R : Database → Database → Type 0) (a b c : State) → (P a.now b.now → Q b.now c.now → R a.now c.now) → Stays P a b → HasStepped Q b c → HasStepped R a c
@@ -150,6 +171,31 @@ stays_stepped P Q R a b c both p q = record {
   step = both p.step q.step;
 }
 
+-- a statement, and then a run
+pub stepped_stays : (P Q R : Database → Database → Type 0) (a b c : State) → (P a.now b.now → Q b.now c.now → R a.now c.now) → HasStepped P a b → Stays Q b c → HasStepped R a c
+stepped_stays P Q R a b c both p q = record {
+  inside = p.inside;
+  shown = record {
+    was_open = p.shown.was_open;
+    is_open = subst IsTrue (sym q.shut) p.shown.is_open;
+    now_is = refl;
+    committed_is = q.committed ∙ p.shown.committed_is;
+    mode = q.mode ∙ p.shown.mode;
+  };
+  sound = q.sound p.sound;
+  step = both p.step q.step;
+}
+
+-- one run, and then another
+pub stays_both : (P Q R : Database → Database → Type 0) (a b c : State) → (P a.now b.now → Q b.now c.now → R a.now c.now) → Stays P a b → Stays Q b c → Stays R a c
+stays_both P Q R a b c both p q = record { shut = q.shut ∙ p.shut; committed = q.committed ∙ p.committed; mode = q.mode ∙ p.mode; sound = λ s. q.sound (p.sound s); step = both p.step q.step }
+
 -- nothing was called yet
-pub part_none : {E : Type 0} (Q : State → State → Type 0) (s : State) → Q s s → Does {E = E} Q (Ok tt) s s
-part_none Q s q = record { survives = survives_none s (λ _. ⊥); did = λ clean. q; kept = λ clean. record { was_open = λ up. up; committed = λ up. refl } }
+pub part_none : (P : Unit {0} → State → State → Type 0) (H : Option ℕ → Database → Type 0) (s : State) → P tt s s → IsPart P H (Ok tt) s s
+part_none P H s p = record {
+  survives = survives_none s (λ _. ⊥);
+  did = λ clean. p;
+  kept = λ clean. record { was_open = λ up. up; committed = λ up. refl };
+  starved = λ clean inside is. absurd (cc);
+  cause = λ inside clean is. absurd (cc);
+}

@@ -67,17 +67,17 @@ are_found _ at = λ key r. refl
 -- their rows are given, found and set
 are_given : (table : Table) (at : Place) → Each (kinds_of table) (Gives table at)
 unfolding everything listing_schema first_key
-are_given Edition at = λ id number. record { one = refl; counted = refl; typed = refl; cast = rw (cast_int id, cast_null, cast_int number) refl; put = λ r int same. rw (rowid_is r id int (and_parts _ _ same).0, cast_int id, cast_null, cast_int number) refl; added = λ here. rw (cast_int id, cast_int number) refl; finds = λ r. refl; set = λ r int same. rw (rowid_is r id int (and_parts _ _ same).0, cast_int id, cast_int number) refl }
-are_given Supervisor at = λ code label quota. record { one = refl; counted = refl; typed = refl; cast = rw (cast_null, cast_int quota) refl; put = λ r int same. rw (cast_id (rowid r) int, cast_int quota) refl; added = λ here. rw (cast_null, cast_int quota) refl; finds = λ r. refl; set = λ r int same. rw (cast_int quota) refl }
-are_given Project at = λ code label supervisor quota. record { one = refl; counted = refl; typed = refl; cast = rw (cast_null, cast_int quota) refl; put = λ r int same. rw (cast_id (rowid r) int, cast_int quota) refl; added = λ here. rw (cast_null, cast_int quota) refl; finds = λ r. refl; set = λ r int same. rw (cast_int quota) refl }
-are_given Student at = λ code label. record { one = refl; counted = refl; typed = refl; cast = rw cast_null refl; put = λ r int same. rw (cast_id (rowid r) int) refl; added = λ here. rw cast_null refl; finds = λ r. refl; set = λ r int same. refl }
-are_given Round at = λ number is_open. record { one = refl; counted = refl; typed = refl; cast = rw (cast_int number, cast_null, cast_int is_open) refl; put = λ r int same. rw (rowid_is r number int (and_parts _ _ same).0, cast_int number, cast_null, cast_int is_open) refl; added = λ here. rw (cast_int number, cast_int is_open) refl; finds = λ r. refl; set = λ r int same. rw (rowid_is r number int (and_parts _ _ same).0, cast_int number, cast_int is_open) refl }
-are_given OldChoice at = λ round student place project. record { one = refl; counted = refl; typed = refl; cast = rw (cast_null, cast_int round, cast_int place) refl; put = λ r int same. rw (cast_id (rowid r) int, cast_int round, cast_int place) refl; added = λ here. rw (cast_null, cast_int round, cast_int place) refl; finds = choice_found (shape_of OldChoice).name at.rules.is_strict at (showing (values_of (shape_of OldChoice))) round student place (Words project ∷ []); set = λ r int same. rw (cast_int round, cast_int place) refl }
-are_given OldPlacement at = λ student round project rank. record { one = refl; counted = refl; typed = refl; cast = rw (cast_null, cast_int round, cast_int rank) refl; put = λ r int same. rw (cast_id (rowid r) int, cast_int round, cast_int rank) refl; added = λ here. rw (cast_null, cast_int round, cast_int rank) refl; finds = λ r. refl; set = λ r int same. rw (cast_int round, cast_int rank) refl }
-are_given Import at = λ id kind bytes rows. record { one = refl; counted = refl; typed = refl; cast = rw (cast_null, cast_bytes at.rules.is_strict bytes, cast_int rows) refl; put = λ r int same. rw (cast_id (rowid r) int, cast_bytes at.rules.is_strict bytes, cast_int rows) refl; added = λ here. rw (cast_null, cast_bytes at.rules.is_strict bytes, cast_int rows) refl; finds = λ r. refl; set = λ r int same. rw (cast_bytes at.rules.is_strict bytes, cast_int rows) refl }
-are_given RoundAim at = λ round generous. record { one = refl; counted = refl; typed = refl; cast = rw (cast_int round, cast_null, cast_int generous) refl; put = λ r int same. rw (rowid_is r round int (and_parts _ _ same).0, cast_int round, cast_null, cast_int generous) refl; added = λ here. rw (cast_int round, cast_int generous) refl; finds = λ r. refl; set = λ r int same. rw (rowid_is r round int (and_parts _ _ same).0, cast_int round, cast_int generous) refl }
-are_given Choice at = λ round student place project. record { one = refl; counted = refl; typed = refl; cast = rw (cast_null, cast_int round, cast_int place) refl; put = λ r int same. rw (cast_id (rowid r) int, cast_int round, cast_int place) refl; added = λ here. rw (cast_null, cast_int round, cast_int place) refl; finds = choice_found (shape_of Choice).name at.rules.is_strict at (showing (values_of (shape_of Choice))) round student place (Words project ∷ []); set = λ r int same. rw (cast_int round, cast_int place) refl }
-are_given Placement at = λ student round project rank. record { one = refl; counted = refl; typed = refl; cast = rw (cast_null, cast_int round, cast_int rank) refl; put = λ r int same. rw (cast_id (rowid r) int, cast_int round, cast_int rank) refl; added = λ here. rw (cast_null, cast_int round, cast_int rank) refl; finds = λ r. refl; set = λ r int same. rw (cast_int round, cast_int rank) refl }
+are_given Edition at = λ id number. record { one = refl; counted = refl; typed = refl; cast = rw (cast_int id, cast_null, cast_int number) refl; put = λ r int same. rw (rowid_is r id int (and_parts _ _ same).0, cast_int id, cast_null, cast_int number) refl; added = λ here. refl; finds = λ r. refl; set = λ r int same. rw (rowid_is r id int (and_parts _ _ same).0) refl }
+are_given Supervisor at = λ code label quota. record { one = refl; counted = refl; typed = refl; cast = rw (cast_null, cast_int quota) refl; put = λ r int same. rw (cast_id (rowid r) int, cast_int quota) refl; added = λ here. refl; finds = λ r. refl; set = λ r int same. refl }
+are_given Project at = λ code label supervisor quota. record { one = refl; counted = refl; typed = refl; cast = rw (cast_null, cast_int quota) refl; put = λ r int same. rw (cast_id (rowid r) int, cast_int quota) refl; added = λ here. refl; finds = λ r. refl; set = λ r int same. refl }
+are_given Student at = λ code label. record { one = refl; counted = refl; typed = refl; cast = rw cast_null refl; put = λ r int same. rw (cast_id (rowid r) int) refl; added = λ here. refl; finds = λ r. refl; set = λ r int same. refl }
+are_given Round at = λ number is_open. record { one = refl; counted = refl; typed = refl; cast = rw (cast_int number, cast_null, cast_int is_open) refl; put = λ r int same. rw (rowid_is r number int (and_parts _ _ same).0, cast_int number, cast_null, cast_int is_open) refl; added = λ here. refl; finds = λ r. refl; set = λ r int same. rw (rowid_is r number int (and_parts _ _ same).0) refl }
+are_given OldChoice at = λ round student place project. record { one = refl; counted = refl; typed = refl; cast = rw (cast_null, cast_int round, cast_int place) refl; put = λ r int same. rw (cast_id (rowid r) int, cast_int round, cast_int place) refl; added = λ here. refl; finds = choice_found (shape_of OldChoice).name at.rules.is_strict at (showing (values_of (shape_of OldChoice))) round student place (Words project ∷ []); set = λ r int same. refl }
+are_given OldPlacement at = λ student round project rank. record { one = refl; counted = refl; typed = refl; cast = rw (cast_null, cast_int round, cast_int rank) refl; put = λ r int same. rw (cast_id (rowid r) int, cast_int round, cast_int rank) refl; added = λ here. refl; finds = λ r. refl; set = λ r int same. refl }
+are_given Import at = λ id kind bytes rows. record { one = refl; counted = refl; typed = refl; cast = rw (cast_null, cast_bytes at.rules.is_strict bytes, cast_int rows) refl; put = λ r int same. rw (cast_id (rowid r) int, cast_bytes at.rules.is_strict bytes, cast_int rows) refl; added = λ here. refl; finds = λ r. refl; set = λ r int same. refl }
+are_given RoundAim at = λ round generous. record { one = refl; counted = refl; typed = refl; cast = rw (cast_int round, cast_null, cast_int generous) refl; put = λ r int same. rw (rowid_is r round int (and_parts _ _ same).0, cast_int round, cast_null, cast_int generous) refl; added = λ here. refl; finds = λ r. refl; set = λ r int same. rw (rowid_is r round int (and_parts _ _ same).0) refl }
+are_given Choice at = λ round student place project. record { one = refl; counted = refl; typed = refl; cast = rw (cast_null, cast_int round, cast_int place) refl; put = λ r int same. rw (cast_id (rowid r) int, cast_int round, cast_int place) refl; added = λ here. refl; finds = choice_found (shape_of Choice).name at.rules.is_strict at (showing (values_of (shape_of Choice))) round student place (Words project ∷ []); set = λ r int same. refl }
+are_given Placement at = λ student round project rank. record { one = refl; counted = refl; typed = refl; cast = rw (cast_null, cast_int round, cast_int rank) refl; put = λ r int same. rw (cast_id (rowid r) int, cast_int round, cast_int rank) refl; added = λ here. refl; finds = λ r. refl; set = λ r int same. refl }
 
 -- and accepted
 are_seen : (table : Table) (schema : Schema) (place : Place) → IsFirst schema (table_at table place) → IsAccepted schema place.tree [] (map (λ (o : Output). o.term) (outs_of (shape_of table))) []

@@ -28,7 +28,7 @@ Each (kind.Text ∷ kinds) P = (text : List ℕ) → Each kinds (λ row. P (Word
 Each (kind.Bytes ∷ kinds) P = (bytes : List ℕ) → Each kinds (λ row. P (Blob bytes ∷ row))
 
 -- so it holds of cells that are of these kinds
-by_kinds : (kinds : List Kind) (P : Row → Type 0) → Each kinds P → (row : Cells) → are_of kinds row ≡ true → P (values row)
+pub by_kinds : (kinds : List Kind) (P : Row → Type 0) → Each kinds P → (row : Cells) → are_of kinds row ≡ true → P (values row)
 by_kinds [] P each [] is = each
 by_kinds [] P each (c ∷ row) is = absurd (cc)
 by_kinds (kind.Number ∷ kinds) P each (Number n ∷ row) is = by_kinds kinds _ (each (pos n)) row is
@@ -56,10 +56,9 @@ module _ (table : Table) where
     pub cast : cast_row (table_at table place) (laid_out Null shape.key row) ≡ laid_out Null shape.key row
     pub put : (r : Row) → is_int (rowid r) ≡ true → hit (finds_of shape place.rules.is_strict 0 (keyed table)) (showing (values_of shape)) row r ≡ true
         → cast_row (table_at table place) (rowid r ∷ eval_all (values_of shape) (row ∷ r ∷ [])) ≡ rowid r ∷ drop 1 (laid_out Null shape.key row)
-    pub added : (here : List Row) → cells (table_at table place) (with_rowid Chosen here (cast_row (table_at table place) (laid_out Null shape.key row))) ≡ row
+    pub added : (here : List Row) → cells (table_at table place) (with_rowid Chosen here (laid_out Null shape.key row)) ≡ row
     pub finds : (r : Row) → hit (finds_of shape place.rules.is_strict 0 (keyed table)) (showing (values_of shape)) row r ≡ begins_with (take (keyed table) row) (cells (table_at table place) r)
-    pub set : (r : Row) → is_int (rowid r) ≡ true → hit (finds_of shape place.rules.is_strict 0 (keyed table)) (showing (values_of shape)) row r ≡ true
-        → cells (table_at table place) (cast_row (table_at table place) (rowid r ∷ eval_all (values_of shape) (row ∷ r ∷ []))) ≡ row
+    pub set : (r : Row) → is_int (rowid r) ≡ true → begins_with (take (keyed table) row) (cells (table_at table place) r) ≡ true → cells (table_at table place) (rowid r ∷ drop 1 (laid_out Null shape.key row)) ≡ row
 
   -- the texts are read as the forms of the shape: CREATE makes the table, INSERT lays a row out, and SELECT shows it
   pub record AreRead : Type 0 where
@@ -183,7 +182,7 @@ module _ (table : Table) (it : Texts table) where
     typed = λ row is. (by_kinds (kinds_of table) (Gives table nowhere) (it.rows nowhere) row is).typed;
     given = λ place row is.
         let gives = by_kinds (kinds_of table) (Gives table place) (it.rows place) row is in
-        record { source = laid_out Null told.key (values row); is = refl; cast = gives.cast; one = gives.one; shown = gives.added };
+        record { source = laid_out Null told.key (values row); is = refl; cast = gives.cast; one = gives.one };
   }
 
   -- what holds of each row of kinds holds of cells that are of them
@@ -218,7 +217,6 @@ module _ (table : Table) (it : Texts table) where
     accepted = accepted_of 0 (keyed table) (showing (values_of told)) (kinds_of table) it.typed;
     hits = λ place row is. (by_kinds (kinds_of table) (Gives table place) (it.rows place) row is).finds;
     put = λ place row is. (by_kinds (kinds_of table) (Gives table place) (it.rows place) row is).put;
-    set = λ place row is. (by_kinds (kinds_of table) (Gives table place) (it.rows place) row is).set;
   }
 
   select_plain : IsPlainSelect (said table).select

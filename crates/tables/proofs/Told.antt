@@ -7,10 +7,11 @@ use Rattle.row_model.specs.declared.table.Table.{Table}
 use Rattle.row_model.specs.Rows.{key_in}
 use Rattle.tables.specs.declared.statements.Entering.{Entering}
 use Rattle.tables.specs.declared.statements.Entering.TheVariants.{InPlace, New}
+use Rattle.tables.specs.Causes.{CanEnter, CanFind}
 use Rattle.tables.proofs.CreateTable.{create_makes, create_writes}
-use Rattle.tables.proofs.InsertRow.{inserts, insert_writes}
-use Rattle.tables.proofs.UpdateRow.{update_puts, update_writes}
-use Rattle.tables.proofs.DeleteRows.{IsDelete, delete_removes, delete_writes}
+use Rattle.tables.proofs.InsertRow.{insert_writes}
+use Rattle.tables.proofs.UpdateRow.{update_writes}
+use Rattle.tables.proofs.DeleteRows.{IsDelete, delete_writes}
 use Rattle.tables.proofs.SelectAll.{read_shows, select_commits, select_rests}
 use Rattle.tables.proofs.Runs.{stepped_by}
 use Rattle.tables.proofs.Understood.{IsWriteText}
@@ -20,80 +21,62 @@ use Rattle.tables.proofs.Unmade.{table_made, unmade}
 use Rattle.tables.proofs.Unread.{unread_rows}
 use Rattle.tables.proofs.Refused.{delete_made, delete_refused, insert_made, insert_refused, update_made, update_refused}
 
-module _ (table : Table) (told : Sql) (is : told ≡ sql_of table) (old new : State) (count : ℕ) where
-  -- the table was made
-  pub created : HasRun told.create [] count old new → HasStepped (Creates (table_at table) (rules_of table) []) old new
-  created run = stepped_by _ _ _ _ _ _ (create_writes (sql_of table).create (shape_of table) (rules_of table) (create_is table (texts table))) (create_makes (sql_of table).create (shape_of table) (rules_of table) (create_is table (texts table)) old new count) (subst (λ (sql : Sql). HasRun sql.create [] count old new) is run)
+-- ---- a table is made
 
--- a row was brought into its table
-module _ (table : Table) (row : Cells) (fits : are_of (kinds_of table) row ≡ true) (old new : State) (count : ℕ) where
+module _ (table : Table) (told : Sql) (is : told ≡ sql_of table) where
+  pub created : (old new : State) (count : ℕ) → HasRun told.create [] count old new → HasStepped (λ old new. Creates (table_at table) (rules_of table) [] old new × IsTableMade (made_here table 0) old new) old new
+  created old new count run =
+      let sql = sql_of table in
+      let it = create_is table (texts table) in
+      stepped_by _ sql.create [] count old new (create_writes sql.create (shape_of table) (rules_of table) it)
+      (λ ran. (create_makes sql.create (shape_of table) (rules_of table) it old new count ran, table_made table (texts table) old new count ran)) (subst (λ (sql : Sql). HasRun sql.create [] count old new) is run)
+
+  pub make_refused : (limit : Option ℕ) (db : Database) → IsHindered told.create [] limit db → IsUnmade (made_here table 0) db
+  make_refused limit db h = unmade table (texts table) (are_makable table) limit db (subst (λ (sql : Sql). IsHindered sql.create [] limit db) is h)
+
+-- ---- a row comes into its table
+
+module _ (table : Table) (row : Cells) (fits : are_of (kinds_of table) row ≡ true) (way : Entering) (text : List ℕ) (is : text ≡ entering way (sql_of table)) where
+  abbrev Entry : (Edit → Type 0) → Database → Type 0
+  Entry = OfEntry way (table_at table) (values (key_in table row)) (values row)
+
+  by_key : (P : Edit → Type 0) (db : Database) → OfEntry InPlace (table_at table) (take (keyed table) (values row)) (values row) P db → OfEntry InPlace (table_at table) (values (key_in table row)) (values row) P db
+  by_key P db = subst (λ key. OfEntry InPlace (table_at table) key (values row) P db) (take-map value_of (keyed table) row)
+
   entry_writes : (way : Entering) → IsWriteText (entering way (sql_of table))
   entry_writes InPlace = update_writes (sql_of table).update (shape_of table) (kinds_of table) (keyed table) (update_is table (texts table))
   entry_writes New = insert_writes (sql_of table).insert (shape_of table) (kinds_of table) (insert_is table (texts table))
 
-  enters : (way : Entering) → Executes (entering way (sql_of table)) (values row) old new (Ok count) → Enters way (table_at table) (values (key_in table row)) (values row) old.now new.now
-  enters InPlace ran =
-      subst (λ key. Puts (table_at table) key (values row) old.now new.now) (take-map value_of (keyed table) row)
-      (update_puts (sql_of table).update (shape_of table) (kinds_of table) (keyed table) (update_is table (texts table)) old new row fits count ran)
-  enters New ran = inserts (sql_of table).insert (shape_of table) (kinds_of table) (insert_is table (texts table)) old new row count fits ran
+  entry_made : (old new : State) (count : ℕ) (way : Entering) → Executes (entering way (sql_of table)) (values row) old new (Ok count) → OfEntry way (table_at table) (values (key_in table row)) (values row) (IsMade old.now new.now) old.now
+  entry_made old new count InPlace ran = by_key (IsMade old.now new.now) old.now (update_made (sql_of table).update (shape_of table) (kinds_of table) (keyed table) (update_is table (texts table)) row fits old new count ran)
+  entry_made old new count New ran = insert_made (sql_of table).insert (shape_of table) (kinds_of table) (insert_is table (texts table)) row fits old new count ran
 
-  pub entered : (way : Entering) (text : List ℕ) → text ≡ entering way (sql_of table) → HasRun text (values row) count old new → HasStepped (Enters way (table_at table) (values (key_in table row)) (values row)) old new
-  entered way text is run =
-      stepped_by (Enters way (table_at table) (values (key_in table row)) (values row)) (entering way (sql_of table)) (values row) count old new (entry_writes way) (enters way) (subst (λ sql. HasRun sql (values row) count old new) is run)
+  pub entered : (old new : State) (count : ℕ) → HasRun text (values row) count old new → HasStepped (λ old new. Entry (IsMade old new) old) old new
+  entered old new count run = stepped_by _ (entering way (sql_of table)) (values row) count old new (entry_writes way) (entry_made old new count way) (subst (λ sql. HasRun sql (values row) count old new) is run)
 
--- the rows of a group were taken away
-module _ (group : Group) (text : List ℕ) (is : text ≡ removal group) (old new : State) (count : ℕ) (key : Cells) (fits : are_of (shared_kinds group) key ≡ true) where
-  abbrev s : Table × ℕ
-  s = shared_by group
+  refused_so : (limit : Option ℕ) (db : Database) (way : Entering) → IsHindered (entering way (sql_of table)) (values row) limit db → CanEnter way (table_at table) limit db → OfEntry way (table_at table) (values (key_in table row)) (values row) (IsRefusedIn db) db
+  refused_so limit db InPlace h may = by_key (IsRefusedIn db) db (update_refused (sql_of table).update (shape_of table) (kinds_of table) (keyed table) (update_is table (texts table)) row fits limit db h may)
+  refused_so limit db New h may = insert_refused (sql_of table).insert (shape_of table) (kinds_of table) (insert_is table (texts table)) row fits limit db h may
 
-  it : IsDelete (removal group) (shape_of s.0) (shared_kinds group) (goes_on s.1)
-  it = removal_is s.0 (texts s.0) (removal group) s.1 (shared_kinds group) (group_text group)
+  pub entry_refused : (limit : Option ℕ) (db : Database) → IsHindered text (values row) limit db → CanEnter way (table_at table) limit db → Entry (IsRefusedIn db) db
+  entry_refused limit db h = refused_so limit db way (subst (λ sql. IsHindered sql (values row) limit db) is h)
 
-  pub left : HasRun text (values key) count old new → HasStepped (Leaves group (values key)) old new
-  left run =
-      stepped_by _ _ _ _ _ _ (delete_writes (removal group) (shape_of s.0) (shared_kinds group) (goes_on s.1) it)
-      (delete_removes (removal group) (shape_of s.0) (shared_kinds group) (goes_on s.1) it old new key count fits)
-      (subst (λ sql. HasRun sql (values key) count old new) is run)
-
--- which edits are made, and which are refused
-module _ (table : Table) (told : Sql) (is : told ≡ sql_of table) where
-  pub make_refused : (limit : Option ℕ) (db : Database) → IsHindered told.create [] limit db → IsUnmade (made_here table 0) db
-  make_refused limit db h = unmade table (texts table) (are_makable table) limit db (subst (λ (sql : Sql). IsHindered sql.create [] limit db) is h)
-
-  pub make_made : (old new : State) (count : ℕ) → HasRun told.create [] count old new → IsTableMade (made_here table 0) old.now new.now
-  make_made old new count run = table_made table (texts table) old new count (subst (λ (sql : Sql). HasRun sql.create [] count old new) is run).ran
-
-module _ (table : Table) (row : Cells) (fits : are_of (kinds_of table) row ≡ true) where
-  abbrev Entry : Entering → (Edit → Type 0) → Option ℕ → Database → Type 0
-  Entry way = OfEntry way (table_at table) (values (key_in table row)) (values row)
-
-  by_key : (P : Edit → Type 0) (limit : Option ℕ) (db : Database) → OfEntry InPlace (table_at table) (take (keyed table) (values row)) (values row) P limit db → Entry InPlace P limit db
-  by_key P limit db = subst (λ key. OfEntry InPlace (table_at table) key (values row) P limit db) (take-map value_of (keyed table) row)
-
-  pub entry_refused : (way : Entering) (text : List ℕ) → text ≡ entering way (sql_of table) → (limit : Option ℕ) (db : Database) → IsHindered text (values row) limit db → Entry way (IsRefusedIn db) limit db
-  entry_refused InPlace text is limit db h =
-      by_key (IsRefusedIn db) limit db (update_refused (sql_of table).update (shape_of table) (kinds_of table) (keyed table) (update_is table (texts table)) row fits limit db (subst (λ sql. IsHindered sql (values row) limit db) is h))
-  entry_refused New text is limit db h = insert_refused (sql_of table).insert (shape_of table) (kinds_of table) (insert_is table (texts table)) row fits limit db (subst (λ sql. IsHindered sql (values row) limit db) is h)
-
-  pub entry_made : (way : Entering) (text : List ℕ) → text ≡ entering way (sql_of table) → (old new : State) (count : ℕ) → HasRun text (values row) count old new → Entry way (IsMade old.now new.now) old.step_limit old.now
-  entry_made InPlace text is old new count run =
-      by_key (IsMade old.now new.now) old.step_limit old.now
-      (update_made (sql_of table).update (shape_of table) (kinds_of table) (keyed table) (update_is table (texts table)) row fits old new count (subst (λ sql. HasRun sql (values row) count old new) is run).ran)
-  entry_made New text is old new count run =
-      insert_made (sql_of table).insert (shape_of table) (kinds_of table) (insert_is table (texts table)) row fits old new count (subst (λ sql. HasRun sql (values row) count old new) is run).ran
+-- ---- the rows of a group go
 
 module _ (group : Group) (key : Cells) (fits : are_of (shared_kinds group) key ≡ true) (text : List ℕ) (is : text ≡ removal group) where
   abbrev from : Table × ℕ
   from = shared_by group
 
-  told_so : IsDelete (removal group) (shape_of from.0) (shared_kinds group) (goes_on from.1)
-  told_so = removal_is from.0 (texts from.0) (removal group) from.1 (shared_kinds group) (group_text group)
+  it : IsDelete (removal group) (shape_of from.0) (shared_kinds group) (goes_on from.1)
+  it = removal_is from.0 (texts from.0) (removal group) from.1 (shared_kinds group) (group_text group)
 
-  pub leaving_refused : (limit : Option ℕ) (db : Database) → IsHindered text (values key) limit db → OfLeaving group (values key) (IsRefusedIn db) limit db
-  leaving_refused limit db h = delete_refused (removal group) (shape_of from.0) (shared_kinds group) (goes_on from.1) told_so key fits limit db (subst (λ sql. IsHindered sql (values key) limit db) is h)
+  pub left : (old new : State) (count : ℕ) → HasRun text (values key) count old new → HasStepped (λ old new. OfLeaving group (values key) (IsMade old new) old) old new
+  left old new count run =
+      stepped_by _ (removal group) (values key) count old new (delete_writes (removal group) (shape_of from.0) (shared_kinds group) (goes_on from.1) it)
+      (delete_made (removal group) (shape_of from.0) (shared_kinds group) (goes_on from.1) it key fits old new count) (subst (λ sql. HasRun sql (values key) count old new) is run)
 
-  pub leaving_made : (old new : State) (count : ℕ) → HasRun text (values key) count old new → OfLeaving group (values key) (IsMade old.now new.now) old.step_limit old.now
-  leaving_made old new count run = delete_made (removal group) (shape_of from.0) (shared_kinds group) (goes_on from.1) told_so key fits old new count (subst (λ sql. HasRun sql (values key) count old new) is run).ran
+  pub leaving_refused : (limit : Option ℕ) (db : Database) → IsHindered text (values key) limit db → CanFind (table_at from.0) limit db → OfLeaving group (values key) (IsRefusedIn db) db
+  leaving_refused limit db h = delete_refused (removal group) (shape_of from.0) (shared_kinds group) (goes_on from.1) it key fits limit db (subst (λ sql. IsHindered sql (values key) limit db) is h)
 
 module _ (table : Table) (told : Sql) (is : told ≡ sql_of table) (old new : State) where
   -- what a reading shows of the table

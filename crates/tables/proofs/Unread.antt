@@ -76,23 +76,23 @@ module _ (sql : List ℕ) (shape : TableShape) (it : IsSelect sql shape) (old ne
   unanswered : (e : Error) → FailsToQuery sql [] old new e → fault_of e ≡ Storage → Ended old new Keyed
   unfolding FailsToQuery
   unanswered e (inl none) other =
-      not_run sql [] old new Keyed (λ no limit sound place listed first keyed.
+      not_run sql [] old new Keyed (λ no may place listed keyed.
       let t = made_at shape place in
-      no (select_text sql shape it old.now place listed (is_first old.now t sound listed first) (low_tree old.now.schema old.now.trees t sound listed))) e other none
-  unanswered e (inr h) other = inr (inr (λ limit sound place listed first keyed.
+      no (select_text sql shape it old.now place listed (is_first old.now t may.1 listed (may.2 place listed)) (low_tree old.now.schema old.now.trees t may.1 listed))) e other none
+  unanswered e (inr h) other = inr (inr (λ may place listed keyed.
       let t = made_at shape place in
-      let is = select_means sql shape it old.now.schema place listed (low_tree old.now.schema old.now.trees t sound listed) h.0 h.1.is in
+      let is = select_means sql shape it old.now.schema place listed (low_tree old.now.schema old.now.trees t may.1 listed) h.0 h.1.is in
       let source = unlisted_of old.now.schema sql h.0 (compiled_of old.now.schema sql h.0 it.unlisted h.1.is) in
       let fails = rw (is.1, is.2, append-nil []) at h.2 in
       let there : fails.0 ≡ old.now = subst (λ b. IsSourceOf b old.now fails.0) source fails.1 in
-      no_query place.tree [] (map (λ (o : Output). o.term) it.outs) old.now [] (it.accepted old.now.schema place (is_first old.now t sound listed first)) (Some e)
-      (subst (λ limit. RefusesToRead limit (whole_command sql shape it old.now.schema place listed (low_tree old.now.schema old.now.trees t sound listed)) old.now [] e) limit (subst₂ (λ c d. RefusesToRead old.step_limit c d [] e) is.0 there fails.2))))
+      no_query place.tree [] (map (λ (o : Output). o.term) it.outs) old.now [] (it.accepted old.now.schema place (is_first old.now t may.1 listed (may.2 place listed))) (Some e)
+      (subst (λ limit. RefusesToRead limit (whole_command sql shape it old.now.schema place listed (low_tree old.now.schema old.now.trees t may.1 listed)) old.now [] e) may.0 (subst₂ (λ c d. RefusesToRead old.step_limit c d [] e) is.0 there fails.2))))
 
   -- and where the rowids are integers of their own, they rise in their order
   unordered : (rows : List Row) → have_ids rows && rises rows ≡ false → ShowsInOrder sql rows old new → Ended old new Keyed
-  unordered rows unkeyed shows = inr (inr (λ limit sound place listed first keyed.
+  unordered rows unkeyed shows = inr (inr (λ may place listed keyed.
       let table = made_at shape place in
-      let both = reads_by sql [] old new shows.seen _ sql it.unlisted (select_means sql shape it old.now.schema place listed (low_tree old.now.schema old.now.trees table sound listed)) shows.shown in
+      let both = reads_by sql [] old new shows.seen _ sql it.unlisted (select_means sql shape it old.now.schema place listed (low_tree old.now.schema old.now.trees table may.1 listed)) shows.shown in
       let own = keyed_permuted shows.seen rows shows.same (keyed_permuted (map (shown table) (old.now.trees place.tree)) shows.seen (answers sql shape it old.now place shows.seen both.0) (keyed_shown table (old.now.trees place.tree) keyed)) in
       let up = sorted_rises rows own shows.sorted in
       let bad = sym unkeyed ∙ and_from _ _ up.0 up.1 in

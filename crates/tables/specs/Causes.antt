@@ -1,5 +1,5 @@
 -- Why a statement is not carried out, for another cause than running out of memory.
-use Rattle.std.specs.Prelude.{◌≡◌, ◌⊎◌, ◌&&◌, ◌==◌, ◌≤◌, ◌+◌, length, ℕ, ℤ, Bool, true, false, drop, filter, find, map, List, [], ◌∷◌, Option, None, Some, Result, Err, OnOk}
+use Rattle.std.specs.Prelude.{◌≡◌, ◌⊎◌, ◌&&◌, ◌==◌, ◌≤◌, ◌+◌, length, ℕ, ℤ, Bool, true, false, drop, filter, find, map, List, [], ◌∷◌, Option, None, Some, Result, Err}
 use Rattle.std.specs.List.Sorted.{IsPermutation, IsSorted}
 use Rattle.std.specs.declared.cmp.Ordering.{Ordering}
 use Rattle.sqlite_disk.specs.Disk.{MoreFaults}
@@ -73,25 +73,34 @@ changing table found news = record { table = table; gone = map (λ r. id_in (row
 abbrev pub replacing : AnyTable → Row → Row → Row
 replacing table given old = rowid old ∷ drop 1 (laid_out Null table.key given)
 
--- This holds of the edit that adds the row, where the table is listed, and no limit of steps is set.
-abbrev pub OfRow : (Place → AnyTable) → Row → (Edit → Type 0) → Option ℕ → Database → Type 0
-OfRow table given P limit db = limit ≡ None → (place : Place) → Lists db.schema (table place) → P (adding (table place) given db.trees)
+-- This holds of the edit that adds the row, where the table is listed.
+abbrev pub OfRow : (Place → AnyTable) → Row → (Edit → Type 0) → Database → Type 0
+OfRow table given P db = (place : Place) → Lists db.schema (table place) → P (adding (table place) given db.trees)
 
--- This holds of the edit by which these come for the rows that pass, in some order, where the table stands, is the first in its tree, and
--- no foreign key acts on it.
-abbrev pub OfChange : (Place → AnyTable) → (Row → Bool) → (AnyTable → List Row → List Row) → (Edit → Type 0) → Option ℕ → Database → Type 0
-OfChange table goes comes P limit db =
-    limit ≡ None → IsDatabase db → (place : Place) (rows : List Row) → IsInert db.schema place.tree → Stands table place rows db → find (λ t. t.tree == place.tree) db.schema.tables ≡ Some (table place)
+-- This holds of the edit by which these come for the rows that pass, in some order, where the table stands and no foreign key acts on it.
+abbrev pub OfChange : (Place → AnyTable) → (Row → Bool) → (AnyTable → List Row → List Row) → (Edit → Type 0) → Database → Type 0
+OfChange table goes comes P db =
+    (place : Place) (rows : List Row) → IsInert db.schema place.tree → Stands table place rows db
     → (found : List Row) × IsPermutation (filter (λ r. goes (cells (table place) r)) (db.trees place.tree)) found × P (changing (table place) found (comes (table place) found))
 
 -- of the edit that brings a row into its table so
-abbrev pub OfEntry : Entering → (Place → AnyTable) → Row → Row → (Edit → Type 0) → Option ℕ → Database → Type 0
+abbrev pub OfEntry : Entering → (Place → AnyTable) → Row → Row → (Edit → Type 0) → Database → Type 0
 OfEntry New table key given = OfRow table given
 OfEntry InPlace table key given = OfChange table (begins_with key) (λ t. map (replacing t given))
 
 -- of the one that takes the rows of a group out
-abbrev pub OfLeaving : Group → Row → (Edit → Type 0) → Option ℕ → Database → Type 0
+abbrev pub OfLeaving : Group → Row → (Edit → Type 0) → Database → Type 0
 OfLeaving group key = let s = shared_by group in OfChange (table_at s.0) (goes_on s.1 key) (λ _ _. [])
+
+-- rows of the table can be found: no limit of steps is set, and the table is the first in its tree
+abbrev pub CanFind : (Place → AnyTable) → Option ℕ → Database → Type 0
+CanFind table limit db =
+    (limit ≡ None) × IsDatabase db × ((place : Place) → Lists db.schema (table place) → find (λ t. t.tree == place.tree) db.schema.tables ≡ Some (table place))
+
+-- the row can come into the table so, for all that is known without its edit
+abbrev pub CanEnter : Entering → (Place → AnyTable) → Option ℕ → Database → Type 0
+CanEnter New table limit db = limit ≡ None
+CanEnter InPlace table limit db = CanFind table limit db
 
 -- the edit was made: a database is left, with the same schema
 abbrev pub IsMade : Database → Database → Edit → Type 0
@@ -128,8 +137,7 @@ pub record ShowsInOrder (sql : List ℕ) (rows : List Row) (old new : State) : T
 
 -- where the table is listed, and first in its tree, its rowids are no integers, or two of them are one
 abbrev pub IsUnread : (Place → AnyTable) → Option ℕ → Database → Type 0
-IsUnread table limit db =
-    limit ≡ None → IsDatabase db → (place : Place) → Lists db.schema (table place) → find (λ t. t.tree == place.tree) db.schema.tables ≡ Some (table place) → IsKeyed (db.trees place.tree) → ⊥
+IsUnread table limit db = CanFind table limit db → (place : Place) → Lists db.schema (table place) → IsKeyed (db.trees place.tree) → ⊥
 
 -- a query failed with an error that is this fault, or it showed rows that their rowids do not distinguish
 abbrev pub FailsToRead : List ℕ → TableFault → State → State → Type 0
@@ -160,10 +168,6 @@ IsCaused storage Hinders result old new = HasCleanDisk new → result ≡ Err st
 -- the same of a call in a transaction
 abbrev pub IsCausedInside : {A : Type 0} → (Option ℕ → Database → Type 0) → Result A TableFault → State → State → Type 0
 IsCausedInside Hinders result old new = old.in_transaction ≡ true → IsCaused Storage Hinders result old new
-
--- where a call in a transaction answers, it went so, unless the disk gave back other bytes than it was given
-abbrev pub IsRunInside : {A : Type 0} → (Option ℕ → Database → Database → Type 0) → Result A TableFault → State → State → Type 0
-IsRunInside Ran result old new = HasCleanDisk new → OnOk result (Ran old.step_limit old.now new.now)
 
 -- where a call in a transaction returns out of memory, it is that of a statement, unless the disk gave back other bytes than it was given
 abbrev pub IsStarvedInside : {A : Type 0} → Result A TableFault → State → State → Type 0

@@ -3,6 +3,8 @@ pub mod Keyed
 pub mod Writes
 pub mod Inert
 pub mod Layout
+pub mod Outcomes
+pub mod Laws
 pub mod Steps
 pub mod Faults
 pub mod Causes

@@ -1,5 +1,5 @@
 -- What a statement, a transaction and a crash do, under a relation P between the database before and after.
-use Rattle.std.specs.Prelude.{◌≡◌, ◌^◌, IsTrue, true, false, List, map, drop, nat_lt, Result, IfOk}
+use Rattle.std.specs.Prelude.{◌≡◌, ◌^◌, ℕ, IsTrue, true, false, List, map, drop, nat_lt, Option, Result, IfOk}
 use Rattle.sqlite.specs.Effect.{Database, IsDatabase}
 use Rattle.sqlite.specs.State.{State, HasCleanDisk, KeepsCommit, Survives, IsUnchanged, Shows as Sees}
 use Rattle.sqlite.specs.Order.{Row}
@@ -7,6 +7,11 @@ use Rattle.sqlite.specs.Table.{Table}
 use Rattle.tables.specs.Table.{Place, Lists}
 use Rattle.tables.specs.Keyed.{Stands}
 use Rattle.sqlite.specs.Tree.{Trees}
+use Rattle.sqlite.specs.Held.{Held, state}
+use Rattle.sqlite_trees.specs.declared.store.Store.{Ghosts}
+use Rattle.tables.specs.declared.fault.TableFault.{TableFault}
+use Rattle.tables.specs.Causes.{IsCausedInside, IsStarvedInside}
+use Rattle.tables.specs.Outcomes.{Outcome}
 
 -- a statement in a transaction went through: nothing is committed, and what the transaction sees changed by P, and is a database
 pub record HasStepped (P : Database → Database → Type 0) (old new : State) : Type 0 where
@@ -41,12 +46,15 @@ pub record Shows (table : Place → Table) (rows : List Row) (old new : State) :
 abbrev pub Rests : State → State → Type 0
 Rests old new = IsTrue new.is_open → IsTrue old.is_open × (old.now ≡ old.committed → (new.now ≡ old.now) × (new.committed ≡ old.committed))
 
--- A call in a transaction: nothing is committed by it, and where it answers it did this, unless the disk has failed.
-pub record IsPart {A E : Type 0} (Q : A → State → State → Type 0) (result : Result A E) (old new : State) : Type 0 where
+-- A call in a transaction commits nothing. Where it answers it did this, unless the disk has failed. Where it returns out of memory, a
+-- statement was; and where it returns another fault, the connection is shut, the disk has failed, or the call is hindered in this way.
+pub record IsPart {A : Type 0} (Did : A → State → State → Type 0) (Hinders : Option ℕ → Database → Type 0) (result : Result A TableFault) (old new : State) : Type 0 where
   pub survives : Survives old new (λ _. ⊥)
-  pub did : HasCleanDisk new → IfOk result (λ a. Q a old new)
+  pub did : HasCleanDisk new → IfOk result (λ a. Did a old new)
   pub kept : HasCleanDisk new → KeepsCommit old new
+  pub starved : IsStarvedInside result old new
+  pub cause : IsCausedInside Hinders result old new
 
--- the same of a call that answers nothing else
-abbrev pub Does : {E : Type 0} → (State → State → Type 0) → Result (Unit {0}) E → State → State → Type 0
-Does Q = IsPart (λ _. Q)
+-- so it is of a statement that comes to this
+abbrev pub Steps : {S : Type 0} → Ghosts S → Outcome → Result (Unit {0}) TableFault → Held S → Held S → Type 0
+Steps ghosts outcome result old new = IsPart (λ _. HasStepped outcome.does) outcome.hinders result (state ghosts old) (state ghosts new)

@@ -170,7 +170,8 @@ fn position_of(schema: &Schema, name: &str) -> Option<usize>
 /// Returns the first table of this name, but for the case of its letters.
 fn find_table<'a>(schema: &'a Schema, name: &str) -> Option<&'a SchemaTable>
     ensures some { IfSome result (λ table. IsTableNamed schema.now name.now table.now) }
-    ensures none { result ≡ None → (at : ℕ) (table : AnyTable) → table_named schema.now name.now ≡ Some at → slice_get schema.now.tables at ≡ Some table → ⊥ }
+    ensures none { result ≡ None → (at : ℕ) (table : AnyTable) → table_named schema.now name.now ≡ Some at
+        → slice_get schema.now.tables at ≡ Some table → ⊥ }
 {
     let at = position_of(schema, name)?;
     schema.tables.get(at)

@@ -93,11 +93,13 @@ pub(crate) fn read_text<S: Alter>(
     sql: &str,
 ) -> Result<Vec<Row>, TableFault>
     ensures keyed { IfOk result (λ rows. IsKeyed rows.items) }
-    ensures shown { HasCleanDisk (state S.Store conn.new) → IfOk result (λ rows. ShowsInOrder sql.now rows.items (state S.Store conn.old) (state S.Store conn.new)) }
+    ensures shown { HasCleanDisk (state S.Store conn.new)
+        → IfOk result (λ rows. ShowsInOrder sql.now rows.items (state S.Store conn.old) (state S.Store conn.new)) }
     ensures ran { HasCleanDisk (state S.Store conn.new) → RanQuery sql.now (state S.Store conn.old) (state S.Store conn.new) }
 
     // Why it fails: the query fails, and the fault is that of its error, or two of its rows have one rowid, or one has none.
-    ensures told { HasCleanDisk (state S.Store conn.new) → IfErr result (λ fault. FailsToRead sql.now fault (state S.Store conn.old) (state S.Store conn.new)) }
+    ensures told { HasCleanDisk (state S.Store conn.new)
+        → IfErr result (λ fault. FailsToRead sql.now fault (state S.Store conn.old) (state S.Store conn.new)) }
     ensures mode { conn.old.in_transaction ≡ false → conn.new.in_transaction ≡ false }
     ensures survives { Survives (state S.Store conn.old) (state S.Store conn.new) (CommitsShowing sql.now [] (state S.Store conn.old)) }
 {

@@ -17,7 +17,9 @@ pub fn need_open<S: Alter>(conn: &mut Connection<S>) -> Result<(), TableFault>
     ensures same { HasCleanDisk (state S.Store conn.new) → OnOk result (IsUnchanged (state S.Store conn.old) (state S.Store conn.new)) }
     ensures sound { HasCleanDisk (state S.Store conn.new) → OnOk result (IsDatabase (state S.Store conn.new).now) }
     ensures rests { HasCleanDisk (state S.Store conn.new) → Rests (state S.Store conn.old) (state S.Store conn.new) }
-    ensures told { HasCleanDisk (state S.Store conn.new) → IfErr result (λ fault. (e : Error) × IsNotRun (state S.Store conn.old) (state S.Store conn.new) (codes "SELECT 1") [] e × (fault ≡ fault_of e)) }
+    ensures told { HasCleanDisk (state S.Store conn.new)
+        → IfErr result (λ fault.
+        (e : Error) × IsNotRun (state S.Store conn.old) (state S.Store conn.new) (codes "SELECT 1") [] e × (fault ≡ fault_of e)) }
     ensures cause { IsCaused Storage (λ _ _. ⊥) result (state S.Store conn.old) (state S.Store conn.new) }
     ensures mode { conn.old.in_transaction ≡ false → conn.new.in_transaction ≡ false }
     ensures survives { Survives (state S.Store conn.old) (state S.Store conn.new) (λ _. ⊥) }

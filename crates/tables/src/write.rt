@@ -3,11 +3,7 @@
 ghost use Rattle.std.specs.Prelude.{◌≡◌, ◌≤◌, length, take};
 ghost use Rattle.sqlite.specs.Values.{bound, bound_value};
 ghost use Rattle.sqlite_value.specs.Value.{owned};
-ghost use Rattle.sqlite.specs.Held.{state};
-ghost use Rattle.tables.specs.Causes.{IsCausedInside, IsStarvedInside};
-ghost use Rattle.tables.specs.Inside.Causes.{IsHindered};
-ghost use Rattle.tables.specs.Inside.Steps.{HasRun};
-ghost use Rattle.tables.specs.Steps.{IsPart};
+ghost use Rattle.tables.specs.Inside.Steps.{IsWritten};
 ghost use Rattle.tables.specs.Table.{value_of, values};
 
 use crate::fault::TableFault;
@@ -52,9 +48,7 @@ pub(crate) fn write<S: Alter>(
     requires { length cells.now ≤ 4 }
 
     ensures same_reference { tx.new.conn.ghost_name ≡ tx.old.conn.ghost_name }
-    ensures step { IsPart (λ count. HasRun sql.now (values cells.now) count) result (state S.Store tx.old.conn.now) (state S.Store tx.new.conn.now) }
-    ensures starved { IsStarvedInside result (state S.Store tx.old.conn.now) (state S.Store tx.new.conn.now) }
-    ensures cause { IsCausedInside (IsHindered sql.now (values cells.now)) result (state S.Store tx.old.conn.now) (state S.Store tx.new.conn.now) }
+    ensures step { IsWritten S.Store sql.now (values cells.now) result tx.old.conn.now tx.new.conn.now }
 {
     match tx.execute(sql, &values(cells)[..cells.len()]) {
         Ok(count) => Ok(count),

@@ -1,9 +1,15 @@
 -- For proofs alone. What a statement, a transaction and a crash do, under a relation P between the database before and after.
-use Rattle.std.specs.Prelude.{◌≡◌, ◌⊎◌, ℕ, true, List, [], Ok}
+use Rattle.std.specs.Prelude.{◌≡◌, ◌⊎◌, ℕ, true, List, [], Result, Ok}
 use Rattle.sqlite.specs.Effect.{Database, IsDatabase}
 use Rattle.sqlite.specs.State.{State, Executes, Shown, FailsToQuery, Shows as Sees}
 use Rattle.sqlite.specs.declared.error.Error.{Error}
 use Rattle.sqlite.specs.Order.{Row}
+use Rattle.sqlite.specs.Held.{Held, state}
+use Rattle.sqlite_trees.specs.declared.store.Store.{Ghosts}
+use Rattle.tables.specs.declared.fault.TableFault.{TableFault}
+use Rattle.tables.specs.Outcomes.{Outcome}
+use Rattle.tables.specs.Steps.{IsPart}
+use Rattle.tables.specs.Inside.Causes.{IsHindered}
 
 -- the statement of this text went through in a transaction, over this many rows: nothing is committed
 pub record HasRun (sql : List ℕ) (params : Row) (count : ℕ) (old new : State) : Type 0 where
@@ -18,6 +24,14 @@ pub record Stays (P : Database → Database → Type 0) (old new : State) : Type
   pub mode : new.in_transaction ≡ old.in_transaction
   pub sound : IsDatabase old.now → IsDatabase new.now
   pub step : P old.now new.now
+
+-- so it is of statements that come to this, of which there may be none
+abbrev pub Runs : {S : Type 0} → Ghosts S → Outcome → Result (Unit {0}) TableFault → Held S → Held S → Type 0
+Runs ghosts outcome result old new = IsPart (λ _. Stays outcome.does) outcome.hinders result (state ghosts old) (state ghosts new)
+
+-- so it is of a statement of this text
+abbrev pub IsWritten : {S : Type 0} → Ghosts S → List ℕ → Row → Result ℕ TableFault → Held S → Held S → Type 0
+IsWritten ghosts sql params result old new = IsPart (HasRun sql params) (IsHindered sql params) result (state ghosts old) (state ghosts new)
 
 -- a query was run, or failed
 abbrev pub RanQuery : List ℕ → State → State → Type 0

@@ -1,5 +1,6 @@
 use Rattle.std.proofs.Common.{◌≡◌, ◌↔◌, false, Err, inl, inr, ap, subst, rules}
 use Rattle.store.proofs.Common.{state, Schema, migrated, AreActedOnAmong, Rises, Seen, IsHinderedToMigrate}
+use Rattle.tables.proofs.Causes.{stopped_as}
 use Rattle.store.proofs.Commit.{made_one, sound_one, saved_by, left_by, dropped_by}
 use Rattle.tables.specs.declared.fault.TableFault.TheVariants.{Storage}
 use Rattle.store.proofs.Migrated.{begun_quiet, none_acts, rises_by, stopped_within}
@@ -13,7 +14,7 @@ returns-in_err-lift_edition-clause-cause g c settled clean h =
     let begins = ap (state g.S.Store) c.transaction-tx.ensures.begun in
     let was : c.lift_edition.result ≡ Err Storage = search rules in
     stopped_within (IsHinderedToMigrate c.args.edition c.args.changes.now) (state g.S.Store c.args.conn.now) (state g.S.Store c.transaction-tx.result.conn.now) (state g.S.Store c.lift_edition.new.tx.conn.now) _ begins
-    (λ early. c.lift_edition.ensures.cause (ap (λ (s : Seen). s.in_transaction) begins) early was) (search rules) clean
+    (λ early. stopped_as _ _ _ _ (λ h. inr h) (c.lift_edition.ensures.step.cause (ap (λ (s : Seen). s.in_transaction) begins) early was)) (search rules) clean
 
 pub returns-in_err-lift_edition-clause-crash : goal.returns-in_err-lift_edition-clause-crash
 returns-in_err-lift_edition-clause-crash g c = dropped_by (state g.S.Store c.args.conn.now) (state g.S.Store c.transaction-tx.result.conn.now) (ap (state g.S.Store) c.transaction-tx.ensures.begun) (state g.S.Store c.lift_edition.new.tx.conn.now) _ (Rises c.args.edition c.args.changes.now) c.lift_edition.ensures.step.survives (search rules)

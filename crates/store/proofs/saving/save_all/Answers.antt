@@ -1,4 +1,6 @@
 use Rattle.std.proofs.Common.{◌≡◌, Err, sym, ap, ◌∙◌, rules}
+use Rattle.tables.specs.Outcomes.{each_of}
+use Rattle.store.specs.Causes.{applying}
 use Rattle.store.proofs.Common.{Seen, state, stopped_as, IsHinderedAmong, Applies}
 use Rattle.tables.specs.declared.fault.TableFault.TheVariants.{Storage}
 use Rattle.store.proofs.Causes.{of_storage}
@@ -14,15 +16,15 @@ returns-in_err-need_open-clause-cause g c settled clean h =
 -- How the transaction ended is searched for, so that a body that ends it otherwise is refused at it.
 pub returns-in_err-apply_all-clause-crash : goal.returns-in_err-apply_all-clause-crash
 returns-in_err-apply_all-clause-crash g c =
-    left_after _ _ _ (Applies c.args.changes.now) c.need_open.ensures.survives c.in_ok-need_open.ensures.same
-    (dropped_by (state g.S.Store c.need_open.new.conn) (state g.S.Store c.transaction-tx.result.conn.now) (ap (state g.S.Store) c.transaction-tx.ensures.begun) (state g.S.Store c.apply_all.new.tx.conn.now) _ (Applies c.args.changes.now) c.apply_all.ensures.step.survives (search rules))
+    left_after _ _ _ (let all = each_of applying c.args.changes.now in all.does) c.need_open.ensures.survives c.in_ok-need_open.ensures.same
+    (dropped_by (state g.S.Store c.need_open.new.conn) (state g.S.Store c.transaction-tx.result.conn.now) (ap (state g.S.Store) c.transaction-tx.ensures.begun) (state g.S.Store c.apply_all.new.tx.conn.now) _ (let all = each_of applying c.args.changes.now in all.does) c.apply_all.ensures.step.survives (search rules))
 
 pub returns-in_err-apply_all-clause-cause : goal.returns-in_err-apply_all-clause-cause
 returns-in_err-apply_all-clause-cause g c settled clean h =
     let begins = ap (state g.S.Store) c.transaction-tx.ensures.begun in
     let was : c.apply_all.result ≡ Err Storage = search rules in
     stopped_after_all (IsHinderedAmong c.args.changes.now) (IsHinderedAmong c.args.changes.now) (state g.S.Store c.args.conn.now) (state g.S.Store c.need_open.new.conn) (state g.S.Store c.transaction-tx.result.conn.now) (state g.S.Store c.apply_all.new.tx.conn.now) _
-    c.in_ok-need_open.ensures.same c.need_open.ensures.survives begins c.apply_all.ensures.step.survives (λ limit db it. it) (λ early. c.apply_all.ensures.cause (ap (λ (s : Seen). s.in_transaction) begins) early was) (search rules) clean
+    c.in_ok-need_open.ensures.same c.need_open.ensures.survives begins c.apply_all.ensures.step.survives (λ limit db it. it) (λ early. c.apply_all.ensures.step.cause (ap (λ (s : Seen). s.in_transaction) begins) early was) (search rules) clean
 
 pub returns-clause-ok : goal.returns-clause-ok
 returns-clause-ok g c = search rules

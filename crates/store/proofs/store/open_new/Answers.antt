@@ -1,5 +1,6 @@
 use Rattle.std.proofs.Common.{◌≡◌, Err, inl, rules}
-use Rattle.store.proofs.Common.{survives_weaker, Storage, stopped_as, IsHinderedCreating, IsHinderedOpening}
+use Rattle.store.specs.Causes.{creating}
+use Rattle.store.proofs.Common.{survives_weaker, Storage, stopped_as, IsHinderedOpening}
 use Rattle.store.proofs.NewTables.{opens_new, founds_left, founds_others}
 use Rattle.store.proofs.Opening.{unopened_by}
 use Rattle.store.proofs.store.open_new.Goals as goal
@@ -11,7 +12,7 @@ returns-in_err-create_tables-clause-unopened g c = unopened_by _ _ _ (record {
   kept = λ clean. search rules;
   cause = λ settled clean h.
       let was : c.create_tables.result ≡ Err Storage = search rules in
-      stopped_as IsHinderedCreating IsHinderedOpening _ _ (λ it. inl (c.requires.none, it)) (c.create_tables.ensures.cause settled clean was);
+      stopped_as creating.hinders IsHinderedOpening _ _ (λ it. inl (c.requires.none, it)) (c.create_tables.ensures.cause settled clean was);
   given_back = λ settled. c.create_tables.ensures.ended settled;
   crash = survives_weaker _ _ _ _ (λ clean trees h. founds_left _ trees c.requires.none h) c.create_tables.ensures.crash;
 })

@@ -14,17 +14,19 @@ returns-in-Ok-clause-step g c = record {
     | inr outside ↦ let e = (c.execute.ensures.ended outside).0 in absurd (let f = c.in-Ok.is in cc)
   ];
   kept = search rules;
+  starved = λ clean inside h. absurd (cc);
+  cause = λ inside clean h. absurd (cc);
 }
 
 pub returns-in-Err-clause-step : goal.returns-in-Err-clause-step
-returns-in-Err-clause-step g c = record { survives = search rules; did = λ clean. tt; kept = search rules }
-
-pub returns-in-Err-clause-cause : goal.returns-in-Err-clause-cause
-returns-in-Err-clause-cause g c inside clean h =
-    let other : fault_of c.in-Err.error ≡ Storage = let told = c.from.ensures in cc in
-    stopped _ _ _ _ _ other (rw (c.in-Err.is, c.values.ensures.values) at (c.execute.ensures.runs clean inside))
-
-pub returns-in-Err-clause-starved : goal.returns-in-Err-clause-starved
-returns-in-Err-clause-starved g c clean inside h =
-    let lack : fault_of c.in-Err.error ≡ Memory = let told = c.from.ensures in cc in
-    lacks _ _ _ _ (c.in-Err.error, rw (c.in-Err.is, c.values.ensures.values) at (c.execute.ensures.runs clean inside), sym lack)
+returns-in-Err-clause-step g c = record {
+  survives = search rules;
+  did = λ clean. tt;
+  kept = search rules;
+  starved = λ clean inside h.
+      let lack : fault_of c.in-Err.error ≡ Memory = let told = c.from.ensures in cc in
+      lacks _ _ _ _ (c.in-Err.error, rw (c.in-Err.is, c.values.ensures.values) at (c.execute.ensures.runs clean inside), sym lack);
+  cause = λ inside clean h.
+      let other : fault_of c.in-Err.error ≡ Storage = let told = c.from.ensures in cc in
+      stopped _ _ _ _ _ other (rw (c.in-Err.is, c.values.ensures.values) at (c.execute.ensures.runs clean inside));
+}

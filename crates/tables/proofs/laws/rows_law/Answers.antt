@@ -1,0 +1,10 @@
+use Rattle.row_model.specs.Rows.{key_in}
+use Rattle.tables.specs.Table.{values}
+use Rattle.tables.proofs.Made.{enters, leaves}
+use Rattle.tables.proofs.laws.rows_law.Goals as goal
+
+pub returns-clause-entry : goal.returns-clause-entry
+returns-clause-entry c way table row old new fits made = enters table row fits way old new made
+
+pub returns-clause-leaving : goal.returns-clause-leaving
+returns-clause-leaving c group key old new made = leaves group (values key) old new made
