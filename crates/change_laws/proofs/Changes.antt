@@ -14,7 +14,7 @@ same_made (Add r) xs ys h = IsPermutation-cons r.cells xs ys h
 same_made (Remove p) xs ys h = IsPermutation-filter (λ row. not (is_in_part p row)) xs ys h
 
 -- of the rows of all tables
-same_change : (c : Change) (rows others : AllRows) → SameRows rows others → SameRows (after_change c rows) (after_change c others)
+pub same_change : (c : Change) (rows others : AllRows) → SameRows rows others → SameRows (after_change c rows) (after_change c others)
 same_change c rows others same table = by (same_table table (changed c))
   where
     by : (b : Bool) → IsPermutation (cond b (makes c (rows table)) (rows table)) (cond b (makes c (others table)) (others table))

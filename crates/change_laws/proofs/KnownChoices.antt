@@ -7,7 +7,7 @@ use Rattle.rolls.specs.declared.refusal.Refusal.{Refusal}
 use Rattle.change_laws.proofs.Entries.{not_false}
 
 -- none of the tests is met
-abbrev Passed : List (Bool × Refusal) → Type 0
+abbrev pub Passed : List (Bool × Refusal) → Type 0
 Passed tests = AllByRecursion (λ (c : Bool × Refusal). c.0 ≡ false) tests
 
 -- the projects are known

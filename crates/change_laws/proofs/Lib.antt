@@ -17,3 +17,7 @@ pub mod Found
 pub mod Choices
 pub mod Apart
 pub mod Determine
+pub mod OnRolls
+pub mod Allowed
+pub mod PlainAllowed
+pub mod ImportAllowed

@@ -9,7 +9,7 @@ use Rattle.change_laws.proofs.Same.{from_same, to_same}
 
 module _ {E : Type 0} (key : E → Key) (row : E → Cells) (t : Table) (tells : (e x : E) → begins (key_in t (row e)) (row x) ≡ same_key (key e) (key x)) where
   -- a row has the key of an entry where the entry is there
-  any_found : (e : E) (es : List E) → list_any (begins (key_in t (row e))) (map row es) ≡ has key (key e) es
+  pub any_found : (e : E) (es : List E) → list_any (begins (key_in t (row e))) (map row es) ≡ has key (key e) es
   any_found e [] = refl
   any_found e (x ∷ es) = (λ i. tells e x i || any_found e es i) ∙ by (same_key (key e) (key x))
     where

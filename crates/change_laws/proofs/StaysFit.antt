@@ -36,7 +36,7 @@ placed_nowhere : (n : ℕ) (x : Option Placement) → is_some x ≡ false → op
 placed_nowhere n None h = refl
 placed_nowhere n (Some p) h = cc
 
-list_fits : (student : List ℕ) (choices : List (List ℕ)) (o : State) → plain_refusal o (PutList student choices) ≡ None → ListFits o (last_round o) (record { student = student; choices = choices })
+pub list_fits : (student : List ℕ) (choices : List (List ℕ)) (o : State) → plain_refusal o (PutList student choices) ≡ None → ListFits o (last_round o) (record { student = student; choices = choices })
 list_fits student choices o none =
     let passed = allowed (list_tests o student choices) none in
     let size : (nat_le 1 (length choices) && nat_le (length choices) RANKS) ≡ true = not_false _ passed.1.1.1.0 in

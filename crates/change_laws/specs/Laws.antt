@@ -1,9 +1,11 @@
 -- What requests and their changes make of a fit office and of its rows, as lists in whatever order.
-use Rattle.std.specs.Prelude.{◌≡◌, ◌&&◌, List, None, [], ◌∷◌, ◌++◌}
+use Rattle.std.specs.Prelude.{◌≡◌, ◌≤◌, ◌^◌, ℕ, List, None, Ok, ◌++◌, length}
+use Rattle.rolls.specs.declared.TheConstants.{MAX_IMPORT_BYTES}
+use Rattle.rolls.specs.declared.import.ImportKind.{ImportKind}
 use Rattle.rolls.specs.declared.request.Plain.{Plain}
 use Rattle.rolls.specs.State.{State}
 use Rattle.rolls.specs.Fit.{IsFit}
-use Rattle.rolls.specs.Importing.{after_rows}
+use Rattle.rolls.specs.Importing.{after_rows, import_refusal}
 use Rattle.rolls.specs.Refusing.{plain_refusal}
 use Rattle.rolls.specs.Stepping.{after_plain}
 use Rattle.row_model.specs.declared.row.Change.{Change}
@@ -12,7 +14,9 @@ use Rattle.row_model.specs.Rows.{AllRows, SameRows}
 use Rattle.row_model.specs.Changes.{TransformsRows}
 use Rattle.rolls.specs.Rows.{rows_in, Transforms}
 use Rattle.rolls.specs.Making.{changes_of}
+use Rattle.change_laws.specs.Allowed.{AreAllowed}
 use Rattle.change_laws.specs.Apart.{AreApart}
+use Rattle.change_laws.specs.Changes.{import_changes}
 
 -- a fit office is fit after each plain request that it does not refuse
 abbrev pub StaysFit : Type 0
@@ -37,3 +41,21 @@ RowsGiveOffice = (o n : State) → IsFit o → IsFit n → SameRows (rows_in o) 
 -- the rows that a fit office has in a table have different keys
 abbrev pub RowsApart : Type 0
 RowsApart = (o : State) → IsFit o → (table : Table) → AreApart table (rows_in o table)
+
+-- the changes of a plain request that is not refused are allowed over the rows of a fit office
+abbrev pub ChangesAllowed : Type 0
+ChangesAllowed = (q : Plain) (o : State) → IsFit o → plain_refusal o q ≡ None → AreAllowed (changes_of q o) (rows_in o)
+
+-- and they are few
+abbrev pub ChangesFew : Type 0
+ChangesFew = (q : Plain) (o : State) → plain_refusal o q ≡ None → length (changes_of q o) ≤ 2 ^ 20
+
+-- so are those of an import that is not refused
+abbrev pub ImportAllowed : Type 0
+ImportAllowed = (id : List ℕ) (kind : ImportKind) (bytes : List ℕ) (rows : List Plain) (o : State) → IsFit o → import_refusal o id kind bytes (Ok rows) ≡ None
+    → AreAllowed (import_changes id kind bytes rows o) (rows_in o)
+
+-- and few, where its text has no more rows than it may have bytes
+abbrev pub ImportFew : Type 0
+ImportFew = (id : List ℕ) (kind : ImportKind) (bytes : List ℕ) (rows : List Plain) (o : State) → import_refusal o id kind bytes (Ok rows) ≡ None → length rows ≤ MAX_IMPORT_BYTES
+    → length (import_changes id kind bytes rows o) ≤ 2 ^ 20

@@ -1,3 +1,4 @@
+pub mod Allowed
 pub mod Apart
 pub mod Changes
 pub mod Laws

@@ -83,15 +83,19 @@ module _ (M : List CodePair) (o : State) (fit : IsFit o) where
         ap (λ (ys : List (List ℕ)). slice_get xs ((1 + prefix_len (λ q. not (bytes_eq q e.project)) ys) - 1)) (same_choices o e.student)
         ∙ ap (slice_get xs) one_less ∙ ranked xs e.project c.0 c.1 c.2
 
-    placements_fit : AllByRecursion (PlacementFits (after_close M o)) (put_all placement_key (map (kept o) M) o.placements)
-    placements_fit =
-        all_put_all placement_key (PlacementFits (after_close M o)) (map (kept o) M) o.placements
-        (all_made (kept o) (PlacementFits (after_close M o)) M
+    -- so the placements that are kept fit, and the others still do
+    pub kept_fit : AllByRecursion (PlacementFits (after_close M o)) (map (kept o) M)
+    kept_fit =
+        all_made (kept o) (PlacementFits (after_close M o)) M
         (all_weaker (λ (e : CodePair). Contains (choices_in o (last_round o) e.student) e.project) (λ e. PlacementFits (after_close M o) (kept o e)) (λ e c. record {
           closed = now_closed;
           rank = omega arith;
           listed = ap (λ (xs : List (List ℕ)). slice_get xs (rank_by_codes (round_instance o) e - 1)) (choices_same (last_round o) e.student) ∙ at_rank e c;
-        }) M pairs_listed))
+        }) M pairs_listed)
+
+    placements_fit : AllByRecursion (PlacementFits (after_close M o)) (put_all placement_key (map (kept o) M) o.placements)
+    placements_fit =
+        all_put_all placement_key (PlacementFits (after_close M o)) (map (kept o) M) o.placements kept_fit
         (all_weaker (PlacementFits o) (PlacementFits (after_close M o)) (λ (p : Placement) f. record {
           closed = still_closed p.round f.closed;
           rank = f.rank;

@@ -11,3 +11,4 @@ pub mod Unplaced
 pub mod ClosingRows
 pub mod SizeAndProfile
 pub mod TakenPairs
+pub mod ClosingAllowed

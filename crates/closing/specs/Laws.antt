@@ -1,5 +1,5 @@
 -- Laws of rounds that close.
-use Rattle.std.specs.Prelude.{◌≡◌, ◌≤◌, ℕ, IsTrue, List, map, length, Option}
+use Rattle.std.specs.Prelude.{◌≡◌, ◌≤◌, ◌^◌, ℕ, IsTrue, List, map, length, Option}
 use Rattle.spa.specs.declared.TheConstants.{MAX_STUDENTS}
 use Rattle.spa.specs.Instance.{Instance}
 use Rattle.spa.specs.Coded.{CodePair, taken}
@@ -10,7 +10,8 @@ use Rattle.rolls.specs.Closing.{MayClose, kept, after_close, closed_reply}
 use Rattle.rolls.specs.Answers.{IsClosed}
 use Rattle.rolls.specs.declared.rounds.Placement.{Placement}
 use Rattle.rolls.specs.declared.request.Done.{Done}
-use Rattle.rolls.specs.Rows.{Transforms}
+use Rattle.rolls.specs.Rows.{Transforms, rows_in}
+use Rattle.change_laws.specs.Allowed.{AreAllowed}
 use Rattle.closing.specs.Places.{placed_by, ArePlacesIn, ArePlacesOf, AreTaken}
 use Rattle.closing.specs.Changes.{after_placing, placed_reply, closing_changes, close_changes}
 
@@ -21,6 +22,14 @@ ClosingKeepsFit = (M : List CodePair) (o : State) → IsFit o → MayClose o M �
 -- the changes of a round that closes transform the rows of the office before into those after
 abbrev pub ClosingTransforms : Type 0
 ClosingTransforms = (M : List CodePair) (o : State) → IsFit o → MayClose o M → Transforms (close_changes M o) o (after_close M o)
+
+-- they are allowed over the rows of the office before
+abbrev pub ClosingAllowed : Type 0
+ClosingAllowed = (M : List CodePair) (o : State) → IsFit o → MayClose o M → AreAllowed (close_changes M o) (rows_in o)
+
+-- and they are few
+abbrev pub ClosingFew : Type 0
+ClosingFew = (M : List CodePair) (o : State) → IsFit o → MayClose o M → length (close_changes M o) ≤ 2 ^ 20
 
 -- the placements that keep a matching are counted as its pairs are
 abbrev pub KeptIsCounted : Type 0

@@ -1,7 +1,7 @@
 //! Laws of rounds that close: functions with nothing to do, whose contracts are the laws.
 #![tactic(auto)]
 
-ghost use Rattle.closing.specs.Laws.{ClosingKeepsFit, ClosingTransforms, KeptIsCounted, PlacesAreTaken, PlacesAreInLists, PlacedIsKept, PlacesClose, AreFew};
+ghost use Rattle.closing.specs.Laws.{ClosingAllowed, ClosingFew, ClosingKeepsFit, ClosingTransforms, KeptIsCounted, PlacesAreTaken, PlacesAreInLists, PlacedIsKept, PlacesClose, AreFew};
 
 /// An office whose open round closes with a matching stays fit, the changes of closing transform its rows, and its placements are
 /// counted in the matching.
@@ -9,6 +9,12 @@ pub fn closing_law()
     ensures fit { ClosingKeepsFit }
     ensures turned { ClosingTransforms }
     ensures counted { KeptIsCounted }
+{}
+
+/// The changes of closing are allowed over the rows of the office before, and they are few.
+pub fn allowed_law()
+    ensures each { ClosingAllowed }
+    ensures few { ClosingFew }
 {}
 
 /// Places of a matching of the open round's instance stand for a matching by codes and for the placements that keep it, and

@@ -7,7 +7,8 @@ use Rattle.rolls.proofs.NoMoreThanFound.{few_placed}
 use Rattle.decoding.proofs.Tests.{at_most, not_true, within}
 use Rattle.decoding.proofs.Decoded.{ProjectForm}
 use Rattle.decoding.proofs.Taken.{IsDrafted, HasChoices, lists_drafted}
-use Rattle.decoding.proofs.FitDrafted.{listed, lists_found}
+use Rattle.change_laws.proofs.OnRolls.{listed}
+use Rattle.decoding.proofs.FitDrafted.{lists_found}
 
 -- ---- tests of each
 

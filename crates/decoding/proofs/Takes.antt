@@ -15,7 +15,8 @@ use Rattle.decoding.proofs.Taken.{AreOf, IsDrafted, RoundForm, drafted_shaped, e
 use Rattle.decoding.proofs.Gathered.{gathered_drafted, gathered_rows, moved, staged_rows, with_held}
 use Rattle.decoding.proofs.Stages.{AreInStages, IsNoSooner, in_stages}
 use Rattle.decoding.proofs.Choices.{any_choice}
-use Rattle.decoding.proofs.FitDrafted.{IsListed, fit_drafted, listed, lists_found, project_code, student_code}
+use Rattle.change_laws.proofs.OnRolls.{IsListed, listed, project_code, student_code}
+use Rattle.decoding.proofs.FitDrafted.{fit_drafted, lists_found}
 
 -- ---- one of many rows
 

@@ -1,5 +1,5 @@
 -- What the records after the header stand for.
-use Rattle.std.proofs.Common.{◌≡◌, ◌≤◌, ◌+◌, ℕ, Bool, List, [], ◌∷◌, length, map, not, Option, Some, None, Ok, Err, refl, ap, arith}
+use Rattle.std.proofs.Common.{◌≡◌, ◌≤◌, ◌+◌, ℕ, Bool, List, [], ◌∷◌, length, map, not, Option, Some, None, Ok, Err, true, false, if◌then◌else◌, refl, sym, ap, ◌∙◌, arith}
 use Rattle.std.specs.List.{position, prefix_len}
 use Rattle.std.specs.Option.{option_map_or}
 use Rattle.std.proofs.lemmas.List.{length-map}
@@ -7,7 +7,7 @@ use Rattle.std.proofs.lemmas.Simd.{map-map}
 use Rattle.csv.specs.Records.{Row, fields_of}
 use Rattle.rolls.specs.declared.import.ImportKind.{ImportKind}
 use Rattle.imports.proofs.Records.{few_records}
-use Rattle.imports.specs.Requests.{IsRecordOf, records_of, has_other_length, requests_after}
+use Rattle.imports.specs.Requests.{IsRecordOf, records_of, has_odd_quotes, has_other_length, is_header, requests_after, requests_of, requests_of_records}
 use Rattle.imports.specs.Kinds.{request_of}
 use Rattle.imports.specs.declared.fault.ImportFault.{ImportFault}
 use Rattle.imports.specs.declared.fault.ImportFault.TheVariants.{Fields, Header, Memory}
@@ -52,3 +52,24 @@ pub within_more : (few many : ℕ) (fault : ImportFault) → few ≤ many → Is
 within_more few many Memory more h = tt
 within_more few many Header more h = tt
 within_more few many (Fields number) more h = omega (arith, h)
+
+-- a text has no more requests than bytes
+pub requests_few : (kind : ImportKind) (bytes : List ℕ) (rows : List Plain) → requests_of kind bytes ≡ Ok rows → length rows ≤ length bytes
+unfolding requests_of
+requests_few kind bytes rows read = by_quotes (has_odd_quotes bytes) read
+  where
+    after : (rest : List (List (List ℕ))) (found : Option ℕ) → option_map_or (λ before. Err (Fields (before + 1))) found (Ok (map (request_of kind) rest)) ≡ Ok rows → length rows ≡ length rest
+    after rest None h = let same : map (request_of kind) rest ≡ rows = cc in sym (ap length same) ∙ length-map rest (request_of kind)
+    after rest (Some before) h = absurd (cc)
+
+    by_header : (first : List (List ℕ)) (rest : List (List (List ℕ))) (b : Bool) → (if b then requests_after kind rest else Err Header) ≡ Ok rows → length rows ≤ length (first ∷ rest)
+    by_header first rest true h = omega (arith, after rest (position (has_other_length kind) rest) h)
+    by_header first rest false h = absurd (cc)
+
+    by_records : (records : List (List (List ℕ))) → requests_of_records kind records ≡ Ok rows → length rows ≤ length records
+    by_records [] h = absurd (cc)
+    by_records (first ∷ rest) h = by_header first rest (is_header kind first) h
+
+    by_quotes : (odd : Bool) → (if odd then Err Header else requests_of_records kind (records_of bytes)) ≡ Ok rows → length rows ≤ length bytes
+    by_quotes true h = absurd (cc)
+    by_quotes false h = omega (arith, by_records (records_of bytes) h, few_records bytes)

@@ -1,4 +1,4 @@
 mod Records
 mod FieldTexts
 mod Alike
-mod AfterHeader
+pub mod AfterHeader
