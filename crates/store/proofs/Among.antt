@@ -68,7 +68,7 @@ unfolding IsAmong
 apart_edition table h e = not_among Edition rolls refl table h e
 
 -- each table but that of the edition is one of the rolls
-in_rolls : (table : Table) → same_table table Edition ≡ false → IsRollTable table
+pub in_rolls : (table : Table) → same_table table Edition ≡ false → IsRollTable table
 unfolding IsAmong
 in_rolls table h = tested_among rolls table (by table h)
   where

@@ -1,8 +1,10 @@
 -- Changes one after another.
-use Rattle.std.proofs.Common.{◌≡◌, ℕ, ◌+◌, ◌<◌, List, [], ◌∷◌, ◌++◌, length, get_or, take, refl, sym, ap, subst, ◌∙◌, Result, Ok, Err, OnOk, IsTrue}
+use Rattle.std.proofs.Common.{◌≡◌, ℕ, ◌+◌, ◌<◌, List, [], ◌∷◌, ◌++◌, length, get_or, take, refl, sym, ap, subst, ◌∙◌, Result, Ok, Err, OnOk, IsTrue, ◌^◌}
 use Rattle.store.proofs.Common.{take_more, Database, Change, Add, Put, Remove, after_changes, table_of, after_both, Trees, HasStepped, HasSaved, MayRecoverTo, Stays, stays_none, TablesHold, Schema, Has, Lists, table_at, AllNeed, AreInert, IsSaving, Needs, Spares}
 use Rattle.sqlite.specs.State.{State}
 use Rattle.store.specs.Saving.{Applies, LeavesOthers, Saves}
+use Rattle.store.specs.Available.{StaysOurs}
+use Rattle.store.proofs.Available.{room_for, run_ours}
 use Rattle.store.specs.Inside.Saving.{AppliesOne}
 use Rattle.tables.specs.Outcomes.{each_of}
 use Rattle.tables.proofs.Outcomes.{did_all}
@@ -67,9 +69,11 @@ leaves_others changes old new inert p rows t = (p (all_needed changes old.schema
 -- so a transaction of them has saved them, where a crash leaves what was committed
 pub saving_call : {E : Type 0} (changes : List Change) (a b : State) (r : Result (Unit {0}) E) → AreInert a.now.schema → ((trees : Trees) → IsTrue b.is_open → b.may_leave trees → trees ≡ b.committed.trees)
     → OnOk r (HasSaved (let all = each_of applying changes in all.does) a b) → OnOk r (IsSaving changes a b)
+unfolding StaysOurs
 saving_call changes a b (Ok u) inert settled h = record {
   saved = record { shown = h.shown; step = saves changes a.now b.now inert (applied changes a.now b.now h.step) };
   others = leaves_others changes a.now b.now inert (applied changes a.now b.now h.step);
+  ours = λ rows sound ready t few. run_ours changes rows a.now b.now sound ready.0 few.1 (room_for (length changes) (2 ^ 20) a.now few.1 ready.1) t few.0 h.step;
   alone = λ trees left. settled trees h.shown.is_open left ∙ ap (λ (db : Database). db.trees) h.shown.committed_is;
 }
 saving_call changes a b (Err e) inert settled h = h

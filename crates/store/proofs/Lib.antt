@@ -1,4 +1,5 @@
 mod Common
+mod Available
 mod Among
 mod Begins
 mod Permutation

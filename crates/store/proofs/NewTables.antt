@@ -1,12 +1,16 @@
 -- The tables that were made stand for the empty office.
-use Rattle.std.proofs.Common.{◌≡◌, ◌≢◌, ◌⊎◌, ◌+◌, ◌<◌, ◌≤◌, ◌++◌, ℕ, List, [], ◌∷◌, length, get_or, take, inl, inr, map, refl, sym, ap, subst, ◌∙◌}
+use Rattle.std.proofs.Common.{◌≡◌, ◌≢◌, ◌⊎◌, ◌+◌, ◌<◌, ◌≤◌, ◌++◌, ℕ, List, [], ◌∷◌, length, get_or, take, inl, inr, map, refl, sym, ap, subst, ◌∙◌, arith}
 use Rattle.store.proofs.Common.{take_more, take_all, Database, Schema, AnyTable, Seen, Trees, Value, Has, all_has, has_either, has_got, rows_in, State, empty, Table, Edition, Supervisor, Place, Lists, rules_of, table_at, Stands, Creates, Adds, HasStepped, MayRecoverTo, Stays, listed_once, stands_apart, stands_beside, stays_none, stays_stepped, decide_table, latest, number_of, all_tables, rolls, values, AreRuled, Brings, MakesTables, StandsFor, HasNone, Opens, numbered}
 use Rattle.store.specs.Tables.{AreRuledAmong, LeavesTables}
 use Rattle.store.specs.Inside.Tables.{Empties}
 use Rattle.store.proofs.Among.{apart_edition, stands_among}
 use Rattle.tables.specs.declared.statements.Entering.TheVariants.{New}
 use Rattle.tables.specs.Outcomes.{each_of, making}
+use Rattle.row_model.specs.Rows.{key_in}
+use Rattle.tables.proofs.Founding.{IsFounding, founded, founding}
 use Rattle.tables.proofs.Made.{enters}
+use Rattle.tables.proofs.Ours.{stays_entered}
+use Rattle.store.specs.Available.{FoundsOurs}
 use Rattle.tables.proofs.Outcomes.{did_all}
 use Rattle.store.specs.Causes.{creating, latest_number}
 
@@ -118,6 +122,16 @@ creates a c (b, made, numbered_so) =
     let p = made_all all_tables a b made in
     let q : Adds (table_at Edition) (values latest_number) b c = enters Edition latest_number refl New b c numbered_so in
     (empty_stands (values latest_number) refl a b c p q, ruled_so (values latest_number) a b c p q, others_stay (values latest_number) a b c p q)
+
+-- in a database without tables they are ours
+pub founds_ours : (old new : Database) → creating.does old new → FoundsOurs old new
+founds_ours a c (b, made, numbered_so) sound absent none =
+    let it = did_all making (λ done a b. IsFounding a → IsFounding b) (λ done q a b c p one f. founded b c (p f) q one.1) all_tables a b (λ f. f) made (founding a sound none) in
+    let m = made_all all_tables a b made in
+    let first : Has all_tables Edition = inl refl in
+    let stands = m.stand Edition first in
+    let key = values (key_in Edition latest_number) in
+    (stays_entered b it.ours Edition (m.places Edition) stands.listed c New key (values latest_number) (1, refl, omega arith) [] stands numbered_so).0
 
 -- the tables were made where there were none
 pub opens_new : (old new : Database) (office : State) → HasNone old.schema → office ≡ empty → creating.does old new → Opens old new office

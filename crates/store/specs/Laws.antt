@@ -1,11 +1,20 @@
--- What the trees of a database say of the office that its tables stand for.
-use Rattle.std.specs.Prelude.{◌≡◌}
+-- What the trees of a database say of the office that its tables stand for, and what tables that are made here take.
+use Rattle.std.specs.Prelude.{◌≡◌, List, None}
 use Rattle.sqlite.specs.Effect.{Database, IsDatabase}
 use Rattle.rolls.specs.State.{State}
 use Rattle.rolls.specs.Fit.{IsFit}
 use Rattle.editions.specs.declared.Edition.{Edition}
-use Rattle.store.specs.Tables.{Opens, StandsIn}
+use Rattle.row_model.specs.declared.row.Change.{Change}
+use Rattle.row_model.specs.Rows.{AllRows}
+use Rattle.row_model.specs.Changes.{AreFresh}
+use Rattle.store.specs.Available.{AreFew, AreReady}
+use Rattle.store.specs.Causes.{IsHinderedAmong}
+use Rattle.store.specs.Tables.{Opens, StandsIn, TablesHold}
 
 -- A database whose tables stand for an office in some edition, opened from its trees alone, is opened as that office.
 abbrev pub OpensAgain : Type 0
 OpensAgain = (e : Edition) (db found opened : Database) (office again : State) → IsDatabase db → IsDatabase found → found.trees ≡ db.trees → StandsIn e db office → IsFit office → IsFit again → Opens found opened again → again ≡ office
+
+-- where they are allowed and each row that they add is new, no change is refused by such tables
+abbrev pub TakesChanges : Type 0
+TakesChanges = (changes : List Change) (rows : AllRows) (db : Database) → IsDatabase db → AreReady db → TablesHold db rows → AreFew changes rows → AreFresh changes rows → IsHinderedAmong changes None db → ⊥

@@ -4,6 +4,7 @@ pub mod Tables
 pub mod Saving
 pub mod Reading
 pub mod Opening
+pub mod Available
 pub mod Laws
 pub mod Causes
 pub mod Inside

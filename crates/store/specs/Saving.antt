@@ -17,6 +17,7 @@ use Rattle.tables.specs.Writes.{IsInert}
 use Rattle.tables.specs.Inert.{IsActedOn}
 use Rattle.tables.specs.Steps.{HasSaved}
 use Rattle.store.specs.Tables.{LeavesAlone, TablesHold}
+use Rattle.store.specs.Available.{StaysOurs}
 
 -- no foreign key acts on this table, wherever it is listed
 abbrev pub IsLeftAlone : Table → Schema → Type 0
@@ -74,4 +75,5 @@ Applies changes old new =
 pub record IsSaving (changes : List Change) (old new : Seen) : Type 0 where
   pub saved : HasSaved (Saves changes) old new
   pub others : LeavesOthers old.now new.now
+  pub ours : StaysOurs changes old.now new.now
   pub alone : LeavesAlone new

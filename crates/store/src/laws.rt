@@ -1,6 +1,6 @@
 //! Laws that the words of the contracts keep: functions with nothing to do, whose contracts are the laws.
 
-ghost use Rattle.store.specs.Laws.{OpensAgain};
+ghost use Rattle.store.specs.Laws.{OpensAgain, TakesChanges};
 
 use change_laws::rows_law;
 use editions::migrated_rows_law;
@@ -12,3 +12,8 @@ pub fn opening_law()
     rows_law();
     migrated_rows_law();
 }
+
+/// Tables as they are made here take each change of a valid request.
+pub fn available_law()
+    ensures { TakesChanges }
+{}

@@ -27,5 +27,5 @@ mod store;
 
 pub use creating::has_none;
 pub use fault::StoreFault;
-pub use laws::opening_law;
+pub use laws::{available_law, opening_law};
 pub use store::Store;

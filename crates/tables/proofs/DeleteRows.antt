@@ -1,16 +1,13 @@
 -- DELETE of the rows that the given values find.
-use Rattle.std.proofs.Common.{◌≡◌, ℕ, length, List, [], ◌∷◌, slice_get, Option, Some, None, Ok, sym, ap, subst, ◌∙◌, Bool, true, not, map, filter}
-use Rattle.tables.proofs.Common.{IsPermutation, IsPermutation-map, IsPermutation-filter, map-map, Schema, Table, Row, Expr, deleted, Program, Delete, State, Executes, mode_of, rowid, Database, Answers, Written, Tally, Does, Mode, edit_of, Applies, id_in, Given, ids_of, works, one_step, Kind, Cells, are_of, Place, TableShape, cells, made_at, values, id_of, IsKeyed}
+use Rattle.std.proofs.Common.{◌≡◌, ℕ, length, List, [], ◌∷◌, slice_get, Option, Some, None, Ok, sym, ap, subst, ◌∙◌, Bool, true}
+use Rattle.tables.proofs.Common.{Schema, Table, Row, Expr, deleted, Program, Delete, Database, Answers, Written, Tally, Does, Mode, edit_of, Applies, Given, ids_of, works, one_step, Kind, Cells, are_of, Place, TableShape, cells, made_at, values}
 use Rattle.sqlite_ast.specs.declared.Statement.TheVariants as written
 use Rattle.sqlite_sql.specs.Term.{Term, col}
-use Rattle.tables.specs.Writes.{Removes}
-use Rattle.tables.proofs.Places.{listed_along}
 use Rattle.tables.proofs.InsertKeyed.{went, same_value}
-use Rattle.tables.proofs.Understood.{IsWriteText, runs_by}
-use Rattle.tables.proofs.RowidsOut.{taken_out, still_keyed, map_filter}
-use Rattle.tables.proofs.InsertRow.{Has, has_listed}
-use Rattle.tables.proofs.QueryRows.{IsDrafted, drafted_writes, drafted_means, hit, found}
-use Rattle.tables.proofs.SelectAll.{found_program, IsAccepted, IsFirst, finding}
+use Rattle.tables.proofs.Understood.{IsWriteText}
+use Rattle.tables.proofs.InsertRow.{Has}
+use Rattle.tables.proofs.QueryRows.{IsDrafted, drafted_writes, hit}
+use Rattle.tables.proofs.SelectAll.{IsAccepted, IsFirst, finding}
 
 -- A text that deletes, read under any schema that lists a table of this shape, and what its test finds, as the table is STRICT or not, by
 -- parameters of these kinds.

@@ -1,16 +1,12 @@
 -- What an INSERT of one row does to the rows of a table, and what its text means under any schema.
-use Rattle.std.proofs.Common.{◌≡◌, ◌≤◌, ℕ, ℤ, ◌+◌, ◌/◌, length, List, [], ◌∷◌, map, slice_get, slice_range, Option, Some, None, Ok, refl, sym, ap, subst, ◌∙◌, false, true, Bool, cond, not, ◌&&◌}
-use Rattle.tables.proofs.Common.{IsPermutation, and_parts, IsPermutation-trans, IsPermutation-cons, IsPermutation-map, Value, Null, Int, Bytes, Row, Schema, Table, Term, Integer, Blob, cast, cast_row, put_row, id_in, is_taken, Applies, with_rowid, is_int, int_is, value_rows, Insert, Values, State, mode_of, Executes, text_of, Chosen, first, small, with_command, on_table, new_rows, table_named, Returning, Enforced, Parsed, Statement, Rows, Checked, Compiled, IsWrite, accepts_terms, Command, Kind, Cells, are_of, Place, TableShape, Lists, cells, kind_in, laid_out, made_at, sql_values, IsKeyed, Adds, IsWriteOf}
+use Rattle.std.proofs.Common.{◌≡◌, ◌≤◌, ℕ, ℤ, ◌+◌, ◌/◌, length, List, [], ◌∷◌, slice_get, slice_range, Option, Some, None, Ok, refl, sym, ap, subst, ◌∙◌, false, true, Bool, cond}
+use Rattle.tables.proofs.Common.{Value, Null, Int, Bytes, Row, Schema, Table, Term, Integer, Blob, cast, cast_row, id_in, is_int, int_is, value_rows, Insert, Values, text_of, first, small, with_command, on_table, new_rows, table_named, Returning, Parsed, Statement, Rows, Checked, Compiled, IsWrite, accepts_terms, Command, Kind, Cells, are_of, Place, TableShape, Lists, kind_in, laid_out, made_at, sql_values, IsWriteOf}
 use Rattle.sqlite.specs.Ops.{unary}
 use Rattle.sqlite.specs.Compile.{compiled, timed, returning, command, planned, meaning, insert, insert_or_abort, shows}
 use Rattle.sqlite.specs.Listing.{understood}
 use Rattle.sqlite_ast.specs.declared.Statement.TheVariants as written
 use Rattle.sqlite_ast.specs.declared.Conflict.TheVariants as conflict
-use Rattle.tables.proofs.Places.{listed_along}
-use Rattle.tables.proofs.Understood.{Means, IsWriteText, runs_by, ends_in_write, on_table_writes, compiles_to_write}
-use Rattle.tables.proofs.InsertKeyed.{insert_does, insert_edit}
-use Rattle.tables.proofs.Puts.{put_row_permutes}
-use Rattle.tables.proofs.Rowids.{keyed_put}
+use Rattle.tables.proofs.Understood.{Means, IsWriteText, ends_in_write, on_table_writes, compiles_to_write}
 
 either : (b : Bool) (x : Value) → cond b x x ≡ x
 either true x = refl

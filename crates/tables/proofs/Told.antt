@@ -1,6 +1,6 @@
 -- What the statements of each table do.
 use Rattle.std.proofs.Common.{◌≡◌, ℕ, take, List, [], subst, true, Option, Result, Ok, Err, IfOk, Vec}
-use Rattle.tables.proofs.Common.{take-map, Database, Row, State, Executes, CommitsShowing, Trees, TableFault, IsKeyed, Group, Cells, are_of, keyed, kinds_of, shared_by, shared_kinds, Sql, made_here, rules_of, shape_of, sql_of, table_at, value_of, values, entering, removal, Creates, Enters, Leaves, Puts, goes_on, HasRun, RanQuery, HasStepped, Shows, Rests, Edit, FailsToRead, IsMade, IsRefusedIn, IsStopped, IsTableMade, IsUnmade, OfEntry, OfLeaving, IsUnread, ShowsInOrder, IsHindered, Storage}
+use Rattle.tables.proofs.Common.{take-map, Database, Row, State, Executes, CommitsShowing, Trees, TableFault, IsKeyed, Group, Cells, are_of, keyed, kinds_of, shared_by, shared_kinds, Sql, made_here, rules_of, shape_of, sql_of, table_at, value_of, values, entering, removal, Creates, goes_on, HasRun, RanQuery, HasStepped, Shows, Rests, Edit, FailsToRead, IsMade, IsRefusedIn, IsStopped, IsTableMade, IsUnmade, OfEntry, OfLeaving, IsUnread, ShowsInOrder, IsHindered, Storage}
 use Rattle.std.specs.declared.alloc.Global.{Global}
 use Rattle.sqlite.specs.State.{Shown}
 use Rattle.row_model.specs.declared.table.Table.{Table}

@@ -1,17 +1,13 @@
 -- UPDATE by key, which sets every column but the rowid.
-use Rattle.std.proofs.Common.{◌≡◌, inl, inr, ℕ, length, List, [], ◌∷◌, ◌++◌, slice_get, Option, Some, None, Ok, refl, sym, ap, subst, subst₂, ◌∙◌, true, false, map, filter, take, drop, not, cond, Bool}
-use Rattle.tables.proofs.Common.{IsPermutation, map-append, IsPermutation-refl, IsPermutation-cons, IsPermutation-map, IsPermutation-middle, IsPermutation-sym, IsPermutation-trans, IsPermutation-append_left, map-map, Schema, Table, Null, Row, Expr, updated, eval_all, is_int, Update, Program, State, Executes, mode_of, rowid, put_row, Database, Answers, Written, Tally, Does, Mode, cast_row, edit_of, Applies, id_in, numbered, without_all, put_all, are_fresh, have_rowids, Given, ids_of, works, Has, all_has, one_step, id_of, IsKeyed, Kind, Cells, are_of, Place, TableShape, cells, laid_out, made_at, sql_values, begins_with, with_row}
+use Rattle.std.proofs.Common.{◌≡◌, ℕ, length, List, [], ◌∷◌, slice_get, Option, Some, None, Ok, refl, sym, ap, subst, ◌∙◌, true, take, drop, Bool}
+use Rattle.tables.proofs.Common.{Schema, Table, Null, Row, Expr, updated, eval_all, is_int, Update, Program, rowid, put_row, Database, Answers, Written, Tally, Does, Mode, cast_row, edit_of, Applies, numbered, Given, ids_of, works, one_step, Kind, Cells, are_of, Place, TableShape, cells, laid_out, made_at, sql_values, begins_with}
 use Rattle.sqlite_ast.specs.declared.Statement.TheVariants as written
 use Rattle.sqlite_sql.specs.Term.{Term, col}
-use Rattle.tables.specs.Writes.{Puts}
-use Rattle.tables.proofs.Places.{listed_along}
 use Rattle.tables.proofs.InsertKeyed.{went, same_value}
-use Rattle.tables.proofs.Understood.{IsWriteText, runs_by}
-use Rattle.tables.proofs.RowidsOut.{taken_out, still_keyed, kept_has, passes}
-use Rattle.tables.proofs.Rowids.{put_all_permutes, keyed_put_all}
-use Rattle.tables.proofs.InsertRow.{Has as Finds, has_listed}
-use Rattle.tables.proofs.QueryRows.{IsDrafted, drafted_writes, drafted_means, hit, found}
-use Rattle.tables.proofs.SelectAll.{found_program, IsAccepted, IsFirst, finding}
+use Rattle.tables.proofs.Understood.{IsWriteText}
+use Rattle.tables.proofs.InsertRow.{Has as Finds}
+use Rattle.tables.proofs.QueryRows.{IsDrafted, drafted_writes, hit}
+use Rattle.tables.proofs.SelectAll.{IsAccepted, IsFirst, finding}
 
 -- what an UPDATE shows of a row that it finds: its rowid, the rowid that it gets, which is the same, and the other columns
 abbrev pub showing : List Term → List Term

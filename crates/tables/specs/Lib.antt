@@ -1,3 +1,4 @@
+pub mod Ours
 pub mod Table
 pub mod Keyed
 pub mod Writes

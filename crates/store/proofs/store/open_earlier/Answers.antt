@@ -53,6 +53,7 @@ returns-clause-opened g c = record {
   office = λ clean.
       let early : HasCleanDisk (state g.S.Store c.office_in.new.conn) = omega (arith, c.migrate.ensures.crash.clean) in
       opens_migrated c.args.edition c.in_ok-migrated.migrated c.in_ok-migrated.changes.items _ _ c.requires.earlier c.requires.edition.alone (c.in_ok-migrated.ensures.ok early) _ (rw c.deref.ensures.value at (c.in_ok-migrate.ensures.ok clean));
+  ours = λ clean sound absent none. absurd (c.requires.edition.some absent);
   others = λ clean.
       let early : HasCleanDisk (state g.S.Store c.office_in.new.conn) = omega (arith, c.migrate.ensures.crash.clean) in
       migrated_others c.args.edition c.in_ok-migrated.migrated c.in_ok-migrated.changes.items _ _ c.requires.earlier c.requires.edition.alone (c.in_ok-migrated.ensures.ok early) _ (rw c.deref.ensures.value at (c.in_ok-migrate.ensures.ok clean));

@@ -18,6 +18,7 @@ returns-in_err-read-clause-unopened g c = let whole = c.requires.whole in unopen
 pub returns-clause-opened : goal.returns-clause-opened
 returns-clause-opened g c = let whole = c.requires.whole in record {
   office = λ clean. opens_found latest c.in_ok-read.read _ _ _ refl (c.in_ok-read.ensures.ok clean);
+  ours = λ clean sound absent none. absurd (c.requires.edition.some absent);
   others = λ clean. others_kept _ _ (c.in_ok-read.ensures.same clean).0.now_is;
   ended = c.office_in.ensures.mode c.requires.idle;
   alone = λ clean trees h.
