@@ -1,5 +1,5 @@
 -- What is owed of a request that is refused, and of one that touches no table.
-use Rattle.std.proofs.Common.{◌≡◌, ◌≢◌, false, Option, Some, IfSome, Result, Ok, Err, OnOk, IsErr, refl, sym, ap, subst, ◌∙◌}
+use Rattle.std.proofs.Common.{◌≡◌, ◌≢◌, false, Some, Result, Ok, Err, OnOk, IsErr, sym, ap, subst, ◌∙◌}
 use Rattle.desk.proofs.Common.{Seen, Refusal, Storage, Reply, Request, changes_nothing, refusal_of, State}
 use Rattle.desk.specs.Saved.{IsSaved}
 use Rattle.desk.proofs.NoStorage.{unread_named}
@@ -25,4 +25,6 @@ idle_saved o q a old new same refused unstored = subst (λ (s : Seen). IsSaved o
   stays_shut = λ clean up. up;
   acted_on = λ change acted. refused change;
   cause = λ quiet clean told. absurd (unstored told);
+  available = λ unlimited ready clean told. absurd (unstored told);
+  ours = λ ready clean up. ready.0;
 })

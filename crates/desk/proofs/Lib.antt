@@ -1,4 +1,5 @@
 mod Common
+mod Available
 pub mod Refusals
 mod NoStorage
 pub mod SavedRows

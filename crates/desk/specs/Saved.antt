@@ -1,5 +1,5 @@
 -- How a request that was asked leaves the tables.
-use Rattle.std.specs.Prelude.{◌≡◌, IsTrue, IsErr, OnOk, false, Result}
+use Rattle.std.specs.Prelude.{◌≡◌, IsTrue, IsErr, OnOk, None, false, Result}
 use Rattle.sqlite.specs.State.{State as Seen, HasCleanDisk, Survives}
 use Rattle.rolls.specs.State.{State}
 use Rattle.rolls.specs.declared.refusal.Refusal.{Refusal}
@@ -9,7 +9,9 @@ use Rattle.rolls.specs.declared.request.Request.{Request}
 use Rattle.rolls.specs.Reads.{changes_nothing}
 use Rattle.tables.specs.Causes.{IsCaused}
 use Rattle.tables.specs.Steps.{MayRecoverTo}
+use Rattle.store.specs.Available.{AreReady}
 use Rattle.store.specs.Saving.{AreActedOn}
+use Rattle.tables.specs.Ours.{IsOurs}
 use Rattle.store.specs.Tables.{LeavesAlone}
 use Rattle.desk.specs.Causes.{IsHinderedToAsk}
 use Rattle.desk.specs.Keeping.{CarriesOut, StandsForOne}
@@ -28,3 +30,7 @@ pub record IsSaved (office : State) (request : Request) (answer : Result Reply R
   -- why the storage has failed, except for a foreign key: a shut connection, a fault of the disk, or a refused statement of the changes
   -- that the request makes
   pub cause : (AreActedOn old.now.schema → ⊥) → IsCaused Storage (IsHinderedToAsk office request) answer old new
+  -- over tables as they are made here, with rowids left, only a shut connection or a fault of the disk
+  pub available : old.step_limit ≡ None → AreReady old.now → IsCaused Storage (λ _ _. ⊥) answer old new
+  -- and they stay as they are made here
+  pub ours : AreReady old.now → HasCleanDisk new → IsTrue new.is_open → IsOurs new.now

@@ -3,7 +3,7 @@ use Rattle.std.proofs.Common.{◌≡◌, ◌⊎◌, inl, inr, ℕ, List, Option,
 use Rattle.std.specs.Option.{unwrap_or}
 use Rattle.sqlite_trees.specs.declared.store.Store.{Ghosts}
 use Rattle.rolls.specs.declared.refusal.Refusal.{Refusal}
-use Rattle.rolls.specs.declared.refusal.Refusal.TheVariants.{Memory, Storage}
+use Rattle.rolls.specs.declared.refusal.Refusal.TheVariants.{Memory}
 use Rattle.rolls.specs.declared.request.Plain.{Plain}
 use Rattle.rolls.specs.declared.request.Plain.TheVariants.{GetSupervisor, GetProject, GetStudent, GetRound}
 use Rattle.rolls.specs.declared.request.Reply.{Reply}
@@ -16,9 +16,7 @@ use Rattle.outside.specs.Layers.{layers}
 use Rattle.desk.specs.Keeping.{repeated_rows}
 use Rattle.desk.specs.DeskState.{DeskState}
 use Rattle.desk.specs.Sessions.{AnswersAtOnce, GoesOn}
-use Rattle.desk.specs.Causes.{IsHinderedToAsk}
-use Rattle.store.specs.Saving.{AreActedOn}
-use Rattle.tables.specs.Causes.{IsCaused}
+use Rattle.desk.specs.Saved.{IsSaved}
 use Rattle.sqlite.specs.Held.{state}
 use Rattle.wire.specs.Run.{MessageText}
 use Rattle.api.specs.Texts.{IsRead, refusal_text, text_of}
@@ -72,15 +70,15 @@ module _ {D S : Type 0} (see : D → S) (At : D → Request → Result Reply Ref
 module _ {S : Type 0} (ghosts : Ghosts S) where
   -- what a desk promises of a request is what the request gets
   pub gets_at : (o n : DeskState S) (q : Request) (a : Result Reply Refusal) → Step layers o.office q a n.office → AnswersAtOnce o.office o.session q a → GoesOn o.office q a o.session n.session
-      → ((AreActedOn (state ghosts o.store).now.schema → ⊥) → IsCaused Storage (IsHinderedToAsk o.office q) a (state ghosts o.store) (state ghosts n.store)) → GetsAt ghosts o q a n
-  gets_at o n q a step at_once goes cause = record { gets = record { step = step; at_once = at_once; goes = goes }; cause = cause }
+      → IsSaved o.office q a (state ghosts o.store) (state ghosts n.store) → GetsAt ghosts o q a n
+  gets_at o n q a step at_once goes saved = record { gets = record { step = step; at_once = at_once; goes = goes }; available = saved.available; ours = saved.ours }
 
   -- a request that gets an answer is answered by its text, or as one that runs out of memory
   pub answered_from : (o n : DeskState S) (bytes : List ℕ) (q : Request) (a : Result Reply Refusal) → GetsAt ghosts o q a n
       → (bytes ≡ text_of a) ⊎ (IsRead a × (bytes ≡ refusal_text Memory)) → AnswersRead (GetsAt ghosts) o (Ok q) bytes n
   answered_from o n bytes q a at (inl earlier) = (a, at, earlier)
   answered_from o n bytes q (Ok reply) at (inr earlier) =
-      (Err Memory, record { gets = text_runs_out (at_desk o) (at_desk n) q reply earlier.0 at.gets.step.0 at.gets.step.1 at.gets.goes; cause = λ alone clean is. cc }, earlier.1)
+      (Err Memory, record { gets = text_runs_out (at_desk o) (at_desk n) q reply earlier.0 at.gets.step.0 at.gets.step.1 at.gets.goes; available = λ unlimited ready clean is. cc; ours = at.ours }, earlier.1)
   answered_from o n bytes q (Err refused) at (inr earlier) = absurd earlier.0
 
   -- a desk with its tables answers as what is seen of it, and as its office

@@ -62,11 +62,10 @@ pub fn serve_stream<S: Alter, R: Source, W: Sink>(
     ensures served { IsServed AnswersOffice end_text desk.old.office (R.left reader.old) (W.written writer.old) result
         desk.new.office (R.left reader.new) (W.written writer.new) }
 
-    // The same with the session, which says what allocates nothing, and over the tables, where each fault of the storage that is
-    // answered has its cause.
+    // The same with the session, which says what allocates nothing, and over the tables: as they are made here they refuse no request.
     ensures session { IsServed AnswersMessage end_text (at_desk desk.old) (R.left reader.old) (W.written writer.old) result
         (at_desk desk.new) (R.left reader.new) (W.written writer.new) }
-    ensures cause { IsServed (AnswersFrom S.Store) end_text desk.old (R.left reader.old) (W.written writer.old) result
+    ensures available { IsServed (AnswersFrom S.Store) end_text desk.old (R.left reader.old) (W.written writer.old) result
         desk.new (R.left reader.new) (W.written writer.new) }
 
     // `Read` and `Write` come exactly where the reader's or the writer's count of failures grows.

@@ -9,13 +9,13 @@ use Rattle.cli.proofs.tasks.do_at.Goals as goal
 pub returns-in-Ok-clause-printed : goal.returns-in-Ok-clause-printed
 returns-in-Ok-clause-printed g c =
     let asked = c.in-Ask.asked in
-    let gets = gets_at g.S.Store c.args.desk.now c.ask.new.self asked c.ask.result c.ask.ensures.step c.ask.ensures.at_once c.ask.ensures.session c.ask.ensures.saved.cause in
+    let gets = gets_at g.S.Store c.args.desk.now c.ask.new.self asked c.ask.result c.ask.ensures.step c.ask.ensures.at_once c.ask.ensures.session c.ask.ensures.saved in
     rw c.in-Ask.is (prints_more (λ o. o ≡ prints (printed_reply c.in-Ok.reply)) (ComesFrom g.S.Store (g.P.Ports.state c.args.ports) (task.Ask asked) c.args.desk.now c.ask.new.self) (λ o is. (c.ask.result, gets, is ∙ ap of_answer (sym c.in-Ok.is))) _ _ _ (search rules depth 2))
 
 pub returns-in-Ask-clause-printed : goal.returns-in-Ask-clause-printed
 returns-in-Ask-clause-printed g c =
     let asked = c.in-Ask.asked in
-    let gets = gets_at g.S.Store c.args.desk.now c.ask.new.self asked c.ask.result c.ask.ensures.step c.ask.ensures.at_once c.ask.ensures.session c.ask.ensures.saved.cause in
+    let gets = gets_at g.S.Store c.args.desk.now c.ask.new.self asked c.ask.result c.ask.ensures.step c.ask.ensures.at_once c.ask.ensures.session c.ask.ensures.saved in
     rw c.in-Ask.is (prints_more _ (ComesFrom g.S.Store (g.P.Ports.state c.args.ports) (task.Ask asked) c.args.desk.now c.ask.new.self) (λ o is. (c.ask.result, gets, is ∙ ap of_answer (sym c.in-Err.is))) _ _ _ c.refuse.ensures)
 
 pub returns-in-Ok-clause-taken : goal.returns-in-Ok-clause-taken

@@ -11,7 +11,7 @@ returns-clause-served g c =
       _,
       c.accept.ensures.last _ c.close.ensures.left,
       record {
-        served = served.cause;
+        served = served.available;
         read_count = served.read_count ∙ ap (λ n. n + read_failed c.serve_stream-came.result) c.in-Ok.ensures.fresh.1;
         write_count = served.write_count ∙ ap (λ n. n + write_failed c.serve_stream-came.result) c.in-Ok.ensures.fresh.2;
       },

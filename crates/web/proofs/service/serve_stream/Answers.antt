@@ -13,8 +13,8 @@ pub returns-in_default-clause-session : goal.returns-in_default-clause-session
 returns-in_default-clause-session g c =
     nothing_served AnswersMessage end_text (at_desk c.args.desk.now) (g.R.Source.left c.args.reader.now) (g.W.Sink.written c.args.writer.now)
 
-pub returns-in_default-clause-cause : goal.returns-in_default-clause-cause
-returns-in_default-clause-cause g c =
+pub returns-in_default-clause-available : goal.returns-in_default-clause-available
+returns-in_default-clause-available g c =
     nothing_served (AnswersFrom g.S.Store) end_text c.args.desk.now (g.R.Source.left c.args.reader.now) (g.W.Sink.written c.args.writer.now)
 
 -- what was served over the tables was served at what is seen of the desk

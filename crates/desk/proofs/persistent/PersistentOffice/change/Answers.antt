@@ -1,7 +1,9 @@
-use Rattle.std.proofs.Common.{◌≡◌, inl, inr, Result, Err, None, refl, ap, subst, ◌∙◌, rules}
+use Rattle.std.proofs.Common.{◌≡◌, inl, inr, Result, Err, None, refl, ap, subst, ◌∙◌, arith, rules}
 use Rattle.desk.proofs.Common.{State, Transforms, Makes, refusal, layers, state, Seen, IsCaused, IsHinderedAmong, Request, Done, Storage, CarriesOut}
 use Rattle.outside.specs.Changes.{MayChange}
 use Rattle.desk.specs.Causes.{IsHinderedToAsk}
+use Rattle.outside.proofs.Allowed.{may_allowed}
+use Rattle.desk.proofs.Available.{available_so, ours_so}
 use Rattle.desk.proofs.Asked.{idle_saved}
 use Rattle.desk.proofs.SavedRows.{call_carried}
 use Rattle.desk.proofs.persistent.PersistentOffice.change.Goals as goal
@@ -45,6 +47,10 @@ returns-clause-saved g c =
       stays_shut = saved.stays_shut;
       acted_on = λ _. saved.acted_on;
       cause = λ quiet. hindered_by Storage c.exchange.result old next q done (state g.S.Store c.args.self.now.store) (state g.S.Store c.exchange.new.self.store) (done.reply, (none, made)) may transforms (saved.cause quiet);
+      available = available_so old done.changes.items c.available_law.ensures c.exchange.result (state g.S.Store c.args.self.now.store) (state g.S.Store c.exchange.new.self.store) c.keeps.ensures.fit c.keeps.ensures.tables c.keeps.ensures.live
+          (may_allowed old q done.changes.items c.keeps.ensures.fit none may) transforms.fresh (λ clean. omega (arith, saved.crash.clean, clean)) saved.cause;
+      ours = ours_so old done.changes.items (state g.S.Store c.args.self.now.store) (state g.S.Store c.exchange.new.self.store) c.keeps.ensures.tables c.keeps.ensures.live
+          (may_allowed old q done.changes.items c.keeps.ensures.fit none may) (λ clean. omega (arith, saved.crash.clean, clean)) saved.stays_shut saved.stays;
     }
 
 pub returns-in-Err-clause-saved : goal.returns-in-Err-clause-saved

@@ -1,8 +1,10 @@
-use Rattle.std.proofs.Common.{◌≡◌, List, Err, Result, IsTrue, refl, sym, ap, subst}
+use Rattle.std.proofs.Common.{◌≡◌, List, Err, Result, IsTrue, refl, sym, ap, subst, ◌∙◌}
 use Rattle.desk.proofs.Common.{Seen, Survives, state, MayRecoverTo, Change, State, Transforms, Refusal, TheStorage, Reply, StoreFault, AreActedOn, Saves, HasCleanDisk, TheDamaged, TheMemory, Damaged, Memory, IsHinderedAmong, IsStopped}
 use Rattle.store.specs.declared.fault.StoreFault.TheVariants.{Storage}
 use Rattle.desk.proofs.SavedRows.{saved_keeps, kept_keeps}
 use Rattle.desk.proofs.SavedRows.{was_storage}
+use Rattle.store.specs.Available.{StaysOurs}
+use Rattle.tables.specs.Ours.{IsOurs}
 use Rattle.desk.proofs.persistent.PersistentOffice.exchange.Goals as goal
 
 -- changes that transform an office into the next one transform it into what the next one is exchanged for
@@ -31,6 +33,15 @@ returns-in-Ok-clause-ok g c = (refl, c.swap.ensures.x_after)
 left_of : (given changes : List Change) (before seen : Seen) (new : Seen) → given ≡ changes → before ≡ seen
     → Survives before new (MayRecoverTo (Saves given) before) → Survives seen new (MayRecoverTo (Saves changes) seen)
 left_of given changes before seen new e f h = rw (← e, ← f) h
+
+-- what stays of the tables, of the changes that were given
+stays_of : (given changes : List Change) (before seen new : Seen) → given ≡ changes → before ≡ seen → StaysOurs given before.now new.now → StaysOurs changes seen.now new.now
+stays_of given changes before seen new e f h = rw (← e, ← f) h
+
+-- nothing has changed
+stays_same : (changes : List Change) (before seen new : Seen) → before ≡ seen → new.now ≡ before.now → StaysOurs changes seen.now new.now
+unfolding StaysOurs
+stays_same changes before seen new e same rows sound ready t few = subst IsOurs (ap (λ (s : Seen). s.now) (sym e) ∙ sym same) ready.0
 
 pub returns-in-Err-clause-tables : goal.returns-in-Err-clause-tables
 returns-in-Err-clause-tables g c =
@@ -70,6 +81,7 @@ returns-in-Ok-clause-saved g c =
       stays_shut = λ clean up. shut_so _ _ before ((c.in-Ok.ensures.saved clean).saved.shown.was_open);
       acted_on = λ acted. absurd (let failed = c.in-Ok.ensures.acted_on (subst (λ (z : Seen). AreActedOn z.now.schema) (sym before) acted) in cc);
       cause = λ quiet clean told. absurd (cc);
+      stays = λ clean up. stays_of c.deref.result.now c.args.done.changes.items (state g.S.Store c.self.inside.store) (state g.S.Store c.args.self.now.store) (state g.S.Store c.save.new.self) c.deref.ensures.value before (c.in-Ok.ensures.saved clean).ours;
     }
 
 pub returns-in-Err-clause-saved : goal.returns-in-Err-clause-saved
@@ -83,4 +95,5 @@ returns-in-Err-clause-saved g c =
       acted_on = λ _. refl;
       cause = caused_so c.deref.result.now c.args.done.changes.items (state g.S.Store c.self.inside.store) (state g.S.Store c.args.self.now.store) (state g.S.Store c.save.new.self) c.in-Err.fault c.refusal_of_fault.result c.deref.ensures.value
           before c.refusal_of_fault.ensures.memory c.refusal_of_fault.ensures.damaged (c.in-Err.ensures.cause c.self.invariant.ended);
+      stays = λ clean up. stays_same c.args.done.changes.items (state g.S.Store c.self.inside.store) (state g.S.Store c.args.self.now.store) (state g.S.Store c.save.new.self) before (c.in-Err.ensures.err clean up).1;
     }

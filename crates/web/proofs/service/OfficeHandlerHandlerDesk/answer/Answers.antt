@@ -14,7 +14,7 @@ returns-in-Ok g c = record {
     read = Ok c.in-Ok.request;
     is_read = c.in-Ok.ensures;
     answers = answered_from g.S.Store c.args.desk.now c.ask.new.self (answer_bytes c.answer_of.result) c.in-Ok.request c.ask.result
-        (gets_at g.S.Store c.args.desk.now c.ask.new.self c.in-Ok.request c.ask.result c.ask.ensures.step c.ask.ensures.at_once c.ask.ensures.session c.ask.ensures.saved.cause)
+        (gets_at g.S.Store c.args.desk.now c.ask.new.self c.in-Ok.request c.ask.result c.ask.ensures.step c.ask.ensures.at_once c.ask.ensures.session c.ask.ensures.saved)
         c.answer_of.ensures;
     clean = λ clean. omega (arith, clean, c.ask.ensures.saved.crash.clean);
   };

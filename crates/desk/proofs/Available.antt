@@ -1,0 +1,42 @@
+-- A valid request is refused by tables of ours for nothing but the disk, and leaves them ours.
+use Rattle.std.proofs.Common.{◌≡◌, ◌⊎◌, inl, inr, IsTrue, false, List, None, Result, subst}
+use Rattle.std.proofs.lemmas.Bool.{cases_Bool}
+use Rattle.sqlite.specs.State.{State as Seen, HasCleanDisk, IsLive}
+use Rattle.row_model.specs.declared.row.Change.{Change}
+use Rattle.row_model.specs.Changes.{AreFresh}
+use Rattle.rolls.specs.declared.refusal.Refusal.{Refusal}
+use Rattle.rolls.specs.declared.refusal.Refusal.TheVariants.{Storage}
+use Rattle.rolls.specs.declared.request.Reply.{Reply}
+use Rattle.rolls.specs.Fit.{IsFit}
+use Rattle.rolls.specs.Rows.{rows_in}
+use Rattle.rolls.specs.State.{State}
+use Rattle.tables.specs.Causes.{IsCaused}
+use Rattle.tables.specs.Ours.{IsOurs}
+use Rattle.tables.proofs.Ours.{unacted}
+use Rattle.store.specs.Available.{AreFew, AreReady, StaysOurs}
+use Rattle.store.specs.Causes.{IsHinderedAmong}
+use Rattle.store.specs.Saving.{AreActedOn}
+use Rattle.store.specs.Laws.{TakesChanges}
+use Rattle.desk.specs.Keeping.{Keeps}
+
+-- no foreign key acts on tables of ours
+quiet : (old : Seen) → IsOurs old.now → AreActedOn old.now.schema → ⊥
+quiet old ours (table, among, (place, listed, acts)) = unacted old.now ours table place listed acts
+
+module _ (o : State) (changes : List Change) where
+  pub available_so : TakesChanges → (answer : Result Reply Refusal) (old new : Seen) → IsFit o → Keeps old o → IsLive old → AreFew changes (rows_in o) → AreFresh changes (rows_in o) → (HasCleanDisk new → HasCleanDisk old)
+      → ((AreActedOn old.now.schema → ⊥) → IsCaused Storage (IsHinderedAmong changes) answer old new) → old.step_limit ≡ None → AreReady old.now → IsCaused Storage (λ _ _. ⊥) answer old new
+  available_so takes answer old new fit keeps live few fresh early cause unlimited ready clean told = record { why = by (let it = cause (quiet old ready.0) clean told in it.why) }
+    where
+      by : {Faults : Type 0} → (old.is_open ≡ false) ⊎ (Faults ⊎ IsHinderedAmong changes old.step_limit old.now) → (old.is_open ≡ false) ⊎ (Faults ⊎ ⊥)
+      by (inl shut) = inl shut
+      by (inr (inl more)) = inr (inl more)
+      by (inr (inr hindered)) = elim (cases_Bool old.is_open) [
+        | inr shut ↦ inl shut
+        | inl up ↦ absurd (takes changes (rows_in o) old.now (live up).0 ready (keeps (early clean) up) few fresh (subst (λ l. IsHinderedAmong changes l old.now) unlimited hindered))
+      ]
+
+  pub ours_so : (old new : Seen) → Keeps old o → IsLive old → AreFew changes (rows_in o) → (HasCleanDisk new → HasCleanDisk old) → (HasCleanDisk new → IsTrue new.is_open → IsTrue old.is_open)
+      → (HasCleanDisk new → IsTrue new.is_open → StaysOurs changes old.now new.now) → AreReady old.now → HasCleanDisk new → IsTrue new.is_open → IsOurs new.now
+  unfolding StaysOurs
+  ours_so old new keeps live few early was_open stays ready clean up = let open_before = was_open clean up in stays clean up (rows_in o) (live open_before).0 ready (keeps (early clean) open_before) few
