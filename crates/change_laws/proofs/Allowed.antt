@@ -1,8 +1,6 @@
 -- Changes that are allowed over rows: they are over the same rows in another order, and so are others after them, where those are allowed
 -- over what they make.
-use Rattle.std.proofs.Common.{◌≡◌, ◌≤◌, Bool, true, false, List, [], ◌∷◌, ◌++◌, sym, subst, ◌∙◌}
-use Rattle.change_laws.proofs.Common.{list_any, IsPermutation-sym, length_permutation, list_any-IsPermutation, IsPermutation-filter, Table, Supervisor, Project, Student, Round, RoundAim, Choice, Placement, Put, Add, Remove, Change, AllRows, Cells, SameRows, begins, key_in, after_change, after_changes}
-use Rattle.change_laws.specs.Allowed.{IsWithin, IsAllowedChange, AreAllowed}
+use Rattle.change_laws.proofs.Common.{list_any, IsPermutation-sym, length_permutation, list_any-IsPermutation, IsPermutation-filter, Table, Supervisor, Project, Student, Round, RoundAim, Choice, Placement, Put, Add, Remove, Change, AllRows, Cells, SameRows, begins, key_in, after_change, after_changes, ◌≡◌, ◌≤◌, Bool, true, false, List, [], ◌∷◌, ◌++◌, sym, subst, ◌∙◌, IsWithin, IsAllowedChange, AreAllowed}
 use Rattle.change_laws.proofs.Changes.{same_change}
 
 module _ (rows others : AllRows) (same : SameRows rows others) where

@@ -1,7 +1,6 @@
 -- The rows of an office have different keys: those of entries as the entries do, and those of choices by their lists and their places
 -- there.
-use Rattle.std.proofs.Common.{not, ◌+◌, ◌≡◌, ℕ, suc, ◌≤◌, Bool, true, false, cond, length, List, [], ◌∷◌, map, filter, Option, Some, None, refl, sym, ap, subst, ◌∙◌, arith}
-use Rattle.change_laws.proofs.Common.{flat_map, IsPermutation, ◌&&◌, ◌==◌, AllByRecursion, list_any, option_map_or, first_so, eq-eqb, All-from_recursion, recursion_from_All, IsPermutation-sym, All-permutation, length_permutation, IsPermutation-filter, none_counted, all_weaker, filter-filter, flat_map-map, flat_map-one, all-map, all-flat_map, all_of, Number, Table, Supervisor, Project, Student, Round, Import, RoundAim, Choice, Placement, Cells, begins, keyed, key_in, Key, same_key, find, rises, State, supervisor_key, project_key, student_key, round_key, aim_key, placement_key, import_key, choices_in, IsFit, choice_rows, list_rows, rows_of_round, supervisor_cells, project_cells, student_cells, round_cells, aim_cells, placement_cells, import_cells, bytes_self, fit_shaped, RowsApart}
+use Rattle.change_laws.proofs.Common.{flat_map, IsPermutation, ◌&&◌, ◌==◌, AllByRecursion, list_any, option_map_or, first_so, eq-eqb, All-from_recursion, recursion_from_All, IsPermutation-sym, All-permutation, length_permutation, IsPermutation-filter, none_counted, all_weaker, filter-filter, flat_map-map, flat_map-one, all-map, all-flat_map, all_of, Number, Table, Supervisor, Project, Student, Round, Import, RoundAim, Choice, Placement, Cells, begins, keyed, key_in, Key, same_key, find, rises, State, supervisor_key, project_key, student_key, round_key, aim_key, placement_key, import_key, choices_in, IsFit, choice_rows, list_rows, rows_of_round, supervisor_cells, project_cells, student_cells, round_cells, aim_cells, placement_cells, import_cells, bytes_self, fit_shaped, RowsApart, not, ◌+◌, ◌≡◌, ℕ, suc, ◌≤◌, Bool, true, false, cond, length, List, [], ◌∷◌, map, Option, Some, None, refl, sym, ap, subst, ◌∙◌, arith, filter}
 use Rattle.change_laws.specs.Apart.{AreApart}
 use Rattle.change_laws.proofs.Keyed.{begins_both, begins_self}
 use Rattle.change_laws.proofs.Changes.{AreFree}

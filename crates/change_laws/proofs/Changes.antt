@@ -1,7 +1,6 @@
 -- Changes one after another: what a change makes of rows in one order it makes of them in any other, and so it is with what is new among
 -- them.
-use Rattle.std.proofs.Common.{◌≡◌, Bool, true, false, not, cond, List, [], ◌∷◌, ◌++◌, map, refl, sym, ap, subst, ◌∙◌}
-use Rattle.change_laws.proofs.Common.{IsPermutation, list_any, IsPermutation-refl, IsPermutation-cons, IsPermutation-map, IsPermutation-sym, IsPermutation-trans, IsPermutation-middle, list_any-IsPermutation, IsPermutation-filter, Table, Change, Put, Add, Remove, AllRows, SameRows, Cells, begins, key_in, same_table, is_in_part, makes, changed, after_change, after_changes, IsFresh, AreFresh, TransformsRows, TransformsFollow}
+use Rattle.change_laws.proofs.Common.{IsPermutation, list_any, IsPermutation-refl, IsPermutation-cons, IsPermutation-map, IsPermutation-sym, IsPermutation-trans, IsPermutation-middle, list_any-IsPermutation, IsPermutation-filter, Table, Change, Put, Add, Remove, AllRows, SameRows, Cells, begins, key_in, same_table, is_in_part, makes, changed, after_change, after_changes, IsFresh, AreFresh, TransformsRows, TransformsFollow, ◌≡◌, Bool, true, false, not, cond, List, [], ◌∷◌, ◌++◌, map, refl, sym, ap, subst, ◌∙◌}
 use Rattle.row_model.proofs.Tables.{same_table_is, same_table_self}
 use Rattle.change_laws.proofs.Same.{from_same}
 

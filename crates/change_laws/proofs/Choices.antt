@@ -1,7 +1,6 @@
 -- The rows of choices, in whatever order, give back what each student lists in each round: those of one list are known by their beginning,
 -- and they stand by their places.
-use Rattle.std.proofs.Common.{◌≡◌, ℕ, suc, ◌<◌, Bool, true, false, cond, List, [], ◌∷◌, ◌++◌, map, filter, Option, Some, None, refl, sym, ap, subst, ◌∙◌, append-nil, arith}
-use Rattle.change_laws.proofs.Common.{flat_map, IsPermutation, option_map_or, first_so, second_so, nat_cmp_is, is_lt, ordering_then, Less, Equal, and_from, filter-append, filter_none, IsPermutation-flat_map, IsPermutation-filter, Text, Number, Cells, begins, RoundEntry, Listed, Key, same_key, find, is_below, rises, State, round_key, list_key, round_of, choices_in, choice_cells, choice_rows, list_rows, rows_of_round, is_equal, found_key, find_below, keys_exact, IsShaped}
+use Rattle.change_laws.proofs.Common.{flat_map, IsPermutation, option_map_or, first_so, second_so, nat_cmp_is, is_lt, ordering_then, Less, Equal, and_from, filter-append, filter_none, IsPermutation-flat_map, IsPermutation-filter, Text, Number, Cells, begins, RoundEntry, Listed, Key, same_key, find, is_below, rises, State, round_key, list_key, round_of, choices_in, choice_cells, choice_rows, list_rows, rows_of_round, is_equal, found_key, find_below, keys_exact, IsShaped, ◌≡◌, ℕ, suc, ◌<◌, Bool, true, false, cond, List, [], ◌∷◌, ◌++◌, map, Option, Some, None, refl, sym, ap, subst, ◌∙◌, append-nil, arith, filter}
 use Rattle.std.proofs.lemmas.List.{map-id}
 use Rattle.change_laws.proofs.Keyed.{filter_alike}
 use Rattle.change_laws.proofs.Found.{same_self, entries_same}

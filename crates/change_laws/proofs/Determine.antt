@@ -1,11 +1,7 @@
 -- The rows of an office determine it: those of one row each give back their entries, a round is what its row says with its lists, and a
 -- list is what its student lists, since it has choices.
-use Rattle.std.proofs.Common.{◌≡◌, ℕ, ◌≤◌, true, false, cond, List, [], ◌∷◌, map, length, Option, Some, None, refl, sym, ap, subst, ◌∙◌, arith, Bool}
-use Rattle.change_laws.proofs.Common.{◌==◌, ◌&&◌, is_lt, AllByRecursion, option_map_or, bytes_eq, Aim, Text, Number, Bytes, Supervisor, Project, Student, Round, Import, RoundAim, Choice, Placement, Cells, SameRows, SupervisorEntry, ProjectEntry, StudentEntry, RoundEntry, Listed, PlacementEntry, AimEntry, ImportEntry, Key, key_cmp, find, is_below, rises, State, supervisor_key, project_key, student_key, round_key, list_key, aim_key, placement_key, import_key, lists_of, choices_in, is_generous, rows_in, supervisor_cells, project_cells, student_cells, round_cells, aim_cells, placement_cells, import_cells, found_key, holds_of_found, same_found, IsShaped, fit_shaped, RowsGiveOffice}
+use Rattle.change_laws.proofs.Common.{◌==◌, ◌&&◌, is_lt, AllByRecursion, option_map_or, bytes_eq, Aim, Text, Number, Bytes, Supervisor, Project, Student, Round, Import, RoundAim, Choice, Placement, Cells, SameRows, SupervisorEntry, ProjectEntry, StudentEntry, RoundEntry, Listed, PlacementEntry, AimEntry, ImportEntry, Key, key_cmp, find, is_below, rises, State, supervisor_key, project_key, student_key, round_key, list_key, aim_key, placement_key, import_key, lists_of, choices_in, is_generous, rows_in, supervisor_cells, project_cells, student_cells, round_cells, aim_cells, placement_cells, import_cells, found_key, holds_of_found, same_found, IsShaped, fit_shaped, RowsGiveOffice, ◌≡◌, ℕ, ◌≤◌, true, false, cond, List, [], ◌∷◌, map, length, Option, Some, None, refl, sym, ap, subst, ◌∙◌, arith, Bool, ImportKind, Supervisors, Projects, Students, Lists, word_of}
 use Rattle.spa.specs.declared.aim.Aim.TheVariants.{Greedy, Generous}
-use Rattle.rolls.specs.declared.import.ImportKind.{ImportKind}
-use Rattle.rolls.specs.declared.import.ImportKind.TheVariants.{Supervisors, Projects, Students, Lists}
-use Rattle.rolls.specs.Kinds.{word_of}
 use Rattle.change_laws.proofs.Found.{StandsIn, each_found, entries_same, by_found}
 use Rattle.change_laws.proofs.Choices.{rows_give, rows_same, same_choices}
 

@@ -1,6 +1,5 @@
 -- Entries in the order of their keys: what is found after some are left out or one is put, and what is counted.
-use Rattle.std.proofs.Common.{◌≡◌, ℕ, zero, suc, ◌+◌, ◌≤◌, Bool, true, false, not, cond, List, [], ◌∷◌, Option, Some, None, is_some, slice_get, refl, sym, ap, subst, ◌∙◌, arith}
-use Rattle.change_laws.proofs.Common.{◌&&◌, nat_le, nat_lt, filter, count_by, option_map_or, first_so, second_so, AllByRecursion, nat_tests, option_filter, Key, key_cmp, same_key, find, has, put, is_below, rises, find-put, is_equal, find_below, keys_exact}
+use Rattle.change_laws.proofs.Common.{◌&&◌, nat_le, nat_lt, filter, count_by, option_map_or, first_so, second_so, AllByRecursion, nat_tests, option_filter, Key, key_cmp, same_key, find, has, put, is_below, rises, find-put, is_equal, find_below, keys_exact, ◌≡◌, ℕ, zero, suc, ◌+◌, ◌≤◌, Bool, true, false, not, cond, List, [], ◌∷◌, Option, Some, None, is_some, slice_get, refl, sym, ap, subst, ◌∙◌, arith}
 use Rattle.std.proofs.lemmas.List.Sums.{sum_by-cons}
 
 -- ---- tests

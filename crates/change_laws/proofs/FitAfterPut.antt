@@ -1,15 +1,7 @@
 -- A fit office stays fit. A put adds an entry to one roll: what was known is known still, and quotas stay high enough. An
 -- opening, a list and a reopening change only the rounds and leave out placements, which has one form for all of them.
-use Rattle.std.proofs.Common.{◌≡◌, ℕ, ◌-◌, ◌≤◌, Bool, true, false, not, cond, List, [], length, Option, Some, None, is_some, slice_get, refl, sym, ap, subst, ◌∙◌, arith}
-use Rattle.change_laws.proofs.Common.{◌&&◌, nat_le, count_by, option_map_or, AllByRecursion, bytes_eq, bytes_eq-Decides, MAX_SUPERVISORS, MAX_PROJECTS, MAX_STUDENTS, MAX_IMPORTS, MAX_ROUNDS, Listed, Key, put, same_key, rises, State, supervisor_key, project_key, student_key, list_key, placement_key, import_key, project_of, has_supervisor, has_project, has_student, has_import, list_of, lists_of, choices_in, is_offered_by, placed_with_supervisor, placed_in_project, quota_with, AreEntries, IsFit, SupervisorFits, ProjectFits, StudentFits, ListFits, PlacementFits, ImportFits, are_aimed, are_numbered, only_last_open, is_moved, with_import, rises-put, find-put, length-put, all-put, same_code, holds_of_found}
+use Rattle.change_laws.proofs.Common.{◌&&◌, nat_le, count_by, option_map_or, AllByRecursion, bytes_eq, bytes_eq-Decides, MAX_SUPERVISORS, MAX_PROJECTS, MAX_STUDENTS, MAX_IMPORTS, MAX_ROUNDS, Listed, Key, put, same_key, rises, State, supervisor_key, project_key, student_key, list_key, placement_key, import_key, project_of, has_supervisor, has_project, has_student, has_import, list_of, lists_of, choices_in, is_offered_by, placed_with_supervisor, placed_in_project, quota_with, AreEntries, IsFit, SupervisorFits, ProjectFits, StudentFits, ListFits, PlacementFits, ImportFits, are_aimed, are_numbered, only_last_open, is_moved, with_import, rises-put, find-put, length-put, all-put, same_code, holds_of_found, ◌≡◌, ℕ, ◌-◌, ◌≤◌, Bool, true, false, not, cond, List, [], length, Option, Some, None, is_some, slice_get, refl, sym, ap, subst, ◌∙◌, arith, SupervisorEntry as Supervisor, ProjectEntry as Project, StudentEntry as Student, RoundEntry as Round, AimEntry as RoundAim, PlacementEntry as Placement, ImportEntry as Import}
 use Rattle.std.specs.Prelude.{find}
-use Rattle.rolls.specs.declared.entries.Supervisor.{Supervisor}
-use Rattle.rolls.specs.declared.entries.Project.{Project}
-use Rattle.rolls.specs.declared.entries.Student.{Student}
-use Rattle.rolls.specs.declared.rounds.Round.{Round}
-use Rattle.rolls.specs.declared.rounds.RoundAim.{RoundAim}
-use Rattle.rolls.specs.declared.rounds.Placement.{Placement}
-use Rattle.rolls.specs.declared.import.Import.{Import}
 use Rattle.rolls.proofs.EntryChange.{all_weaker}
 use Rattle.change_laws.proofs.Entries.{room, found_still, number_still, all_at, count_same}
 

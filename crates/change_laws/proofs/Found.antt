@@ -1,6 +1,5 @@
 -- Entries in the order of their keys: each is found at its key, so they are one where they are the same in whatever order.
-use Rattle.std.proofs.Common.{◌≡◌, true, false, cond, List, [], ◌∷◌, Option, Some, None, refl, sym, ap, subst, ◌∙◌}
-use Rattle.change_laws.proofs.Common.{IsPermutation, AllByRecursion, first_so, second_so, is_eq, is_lt, ordering_reverse, Ordering, Less, Equal, Greater, false_from_ne_true, All-from_recursion, recursion_from_All, IsPermutation-sym, All-permutation, Key, key_cmp, same_key, find, is_below, rises, is_equal, found_key, holds_of_found, keys_total, keys_exact, same_found}
+use Rattle.change_laws.proofs.Common.{IsPermutation, AllByRecursion, first_so, second_so, is_eq, is_lt, ordering_reverse, Ordering, Less, Equal, Greater, false_from_ne_true, All-from_recursion, recursion_from_All, IsPermutation-sym, All-permutation, Key, key_cmp, same_key, find, is_below, rises, is_equal, found_key, holds_of_found, keys_total, keys_exact, same_found, ◌≡◌, true, false, cond, List, [], ◌∷◌, Option, Some, None, refl, sym, ap, subst, ◌∙◌}
 
 -- no order is its own converse but that of equals
 own_order : (r : Ordering) → r ≡ ordering_reverse r → r ≡ Equal

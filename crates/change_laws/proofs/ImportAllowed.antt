@@ -1,15 +1,5 @@
 -- So are the changes of an import, those of one request after another, and last its own row, whatever the rows are then.
-use Rattle.std.proofs.Common.{◌≡◌, ℕ, suc, ◌*◌, ◌^◌, ◌≤◌, Bool, true, false, List, [], ◌∷◌, ◌++◌, length, Option, Some, None, Ok, if◌then◌else◌, refl, length-append, arith}
-use Rattle.change_laws.proofs.Common.{IsPermutation-refl, Change, Import, State, has_import, IsFit, plain_refusal, after_plain, changes_of, import_cells, rows_in, allowed}
-use Rattle.rolls.specs.declared.TheConstants.{MAX_IMPORT_BYTES}
-use Rattle.rolls.specs.declared.import.ImportKind.{ImportKind}
-use Rattle.rolls.specs.declared.import.ImportKind.TheVariants.{Supervisors}
-use Rattle.rolls.specs.declared.refusal.Refusal.{Refusal}
-use Rattle.rolls.specs.declared.request.Plain.{Plain}
-use Rattle.rolls.specs.Importing.{or_else, at_record, rows_refusal, import_refusal}
-use Rattle.rolls.specs.Kinds.{word_of}
-use Rattle.rolls.specs.Refusing.{import_tests}
-use Rattle.change_laws.specs.Allowed.{AreAllowed}
+use Rattle.change_laws.proofs.Common.{IsPermutation-refl, Change, Import, State, has_import, IsFit, plain_refusal, after_plain, changes_of, import_cells, rows_in, allowed, ◌≡◌, ℕ, suc, ◌*◌, ◌^◌, ◌≤◌, Bool, true, false, List, [], ◌∷◌, ◌++◌, length, Option, Some, None, Ok, if◌then◌else◌, refl, length-append, arith, MAX_IMPORT_BYTES, ImportKind, Supervisors, Refusal, Plain, or_else, at_record, rows_refusal, import_refusal, word_of, import_tests, AreAllowed}
 use Rattle.change_laws.specs.Changes.{changes_of_rows, import_changes}
 use Rattle.change_laws.proofs.Allowed.{allowed_follow}
 use Rattle.change_laws.proofs.Changes.{add}

@@ -1,7 +1,5 @@
 -- Plain requests keep no import.
-use Rattle.std.proofs.Common.{◌≡◌, [], ◌∷◌, refl, ◌∙◌}
-use Rattle.rolls.specs.declared.request.Plain.{Plain}
-use Rattle.change_laws.proofs.Common.{PutSupervisor, State, after_plain, ImportsStay}
+use Rattle.change_laws.proofs.Common.{PutSupervisor, State, after_plain, ImportsStay, ◌≡◌, [], ◌∷◌, refl, ◌∙◌, Plain}
 
 one_keeps_none : (p : Plain) (o : State) → (let n = after_plain p o in n.imports) ≡ o.imports
 one_keeps_none (PutSupervisor code label quota) o = refl

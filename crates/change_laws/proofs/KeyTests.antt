@@ -1,6 +1,5 @@
 -- Cells are the same where the keys that they give are.
-use Rattle.std.proofs.Common.{◌≡◌, ℕ, Bool, true, false, List, [], inl, inr, refl, sym, ◌∙◌}
-use Rattle.change_laws.proofs.Common.{◌&&◌, ◌==◌, bytes_eq, cases_eq, eqb-true, eq-eqb, false_from_ne_true, same_key, same_code, same_round, other_round}
+use Rattle.change_laws.proofs.Common.{◌&&◌, ◌==◌, bytes_eq, cases_eq, eqb-true, eq-eqb, false_from_ne_true, same_key, same_code, same_round, other_round, ◌≡◌, ℕ, Bool, true, false, List, [], inl, inr, refl, sym, ◌∙◌}
 
 -- a test and nothing more
 pub and_true : (b : Bool) → (b && true) ≡ b

@@ -1,7 +1,6 @@
 -- Entries in the order of their keys, and their rows: an entry that is put stands next to the others, in whatever order, and a test that
 -- finds the rows of one key alone leaves those of the others.
-use Rattle.std.proofs.Common.{ℕ, zero, suc, take, length, drop, ◌≡◌, Bool, true, false, not, cond, List, [], ◌∷◌, ◌++◌, filter, Some, is_some, refl, sym, ap, subst, ◌∙◌}
-use Rattle.change_laws.proofs.Common.{flat_map, IsPermutation, ◌&&◌, AllByRecursion, list_any, first_so, second_so, is_eq, Ordering, Less, Equal, Greater, and_from, eq-eqb, filter-append, filter_passes, recursion_from_All, IsPermutation-refl, IsPermutation-sym, IsPermutation-trans, IsPermutation-cons, IsPermutation-middle, IsPermutation-append_right, IsPermutation-same, filter_all, filter_none, all_weaker, any_from_none, Text, Number, Bytes, Cells, begins, same_cell, Key, key_cmp, same_key, by_order, find, has, put, put_all, take_out, is_below, rises, find-put, is_equal, below_all, find_below, rises-put, bytes_self, keys_exact}
+use Rattle.change_laws.proofs.Common.{flat_map, IsPermutation, ◌&&◌, AllByRecursion, list_any, first_so, second_so, is_eq, Ordering, Less, Equal, Greater, and_from, eq-eqb, filter-append, filter_passes, recursion_from_All, IsPermutation-refl, IsPermutation-sym, IsPermutation-trans, IsPermutation-cons, IsPermutation-middle, IsPermutation-append_right, IsPermutation-same, filter_all, filter_none, all_weaker, any_from_none, Text, Number, Bytes, Cells, begins, same_cell, Key, key_cmp, same_key, by_order, find, has, put, put_all, take_out, is_below, rises, find-put, is_equal, below_all, find_below, rises-put, bytes_self, keys_exact, ℕ, zero, suc, take, length, drop, ◌≡◌, Bool, true, false, not, cond, List, [], ◌∷◌, ◌++◌, Some, is_some, refl, sym, ap, subst, ◌∙◌, filter}
 use Rattle.row_model.specs.declared.cell.Cell.{Cell}
 
 module _ {E : Type 0} (key : E → Key) where

@@ -1,9 +1,6 @@
 -- A list that gets no refusal: its projects are known, and none stands twice. Each test looks for a choice among those before
 -- it, and `is_distinct` for each choice among those after it.
-use Rattle.std.proofs.Common.{◌≡◌, ℕ, Bool, true, false, not, List, [], ◌∷◌, ◌++◌, refl, ap, subst, ◌∙◌}
-use Rattle.change_laws.proofs.Common.{◌||◌, AllByRecursion, list_any, bytes_eq, and_from, false_from_ne_true, or_left, or_right, bytes_eq-Decides, State, has_project, is_distinct, choice_tests}
-use Rattle.std.proofs.lemmas.List.Folds.{list_any-append}
-use Rattle.rolls.specs.declared.refusal.Refusal.{Refusal}
+use Rattle.change_laws.proofs.Common.{◌||◌, AllByRecursion, list_any, bytes_eq, and_from, false_from_ne_true, or_left, or_right, bytes_eq-Decides, State, has_project, is_distinct, choice_tests, ◌≡◌, ℕ, Bool, true, false, not, List, [], ◌∷◌, ◌++◌, refl, ap, subst, ◌∙◌, list_any-append, Refusal}
 use Rattle.change_laws.proofs.Entries.{not_false}
 
 -- none of the tests is met

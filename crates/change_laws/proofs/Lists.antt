@@ -1,8 +1,7 @@
 -- A student's list in the open round gives way to new choices. A removal of its rows leaves those of the other lists; these, and the rows
 -- of the new choices, are what the round has then. The office is looked at as that round next to the others, and the round as that list
 -- next to the others.
-use Rattle.std.proofs.Common.{◌≡◌, ℕ, suc, ◌≤◌, Bool, true, false, not, cond, drop, List, [], ◌∷◌, ◌++◌, map, filter, Option, Some, is_some, refl, sym, ap, subst, ◌∙◌, arith, true≢false, append_assoc}
-use Rattle.change_laws.proofs.Common.{flat_map, IsPermutation, ◌&&◌, ◌||◌, ◌==◌, list_any, AllByRecursion, option_map_or, bytes_eq, eqb-true, eq-eqb, false_from_ne_true, filter-append, IsPermutation-refl, IsPermutation-sym, IsPermutation-trans, IsPermutation-map, IsPermutation-append_left, IsPermutation-append_right, list_any-IsPermutation, all-flat_map, all_of, filter_all, IsPermutation-flat_map, IsPermutation-filter, all_weaker, none_from_any, any_from_none, Text, Number, Round, Choice, Remove, Change, AllRows, Cells, begins, after_change, TransformsRows, RoundEntry, Listed, same_key, find, take_out, put, rises, State, round_key, list_key, last_round, round_of, has_list, is_open, IsFit, with_last, list_part, list_changes, choices_added, choice_cells, choice_rows, list_rows, rows_of_round, rows_in, round_cells, Transforms, has_reading}
+use Rattle.change_laws.proofs.Common.{flat_map, IsPermutation, ◌&&◌, ◌||◌, ◌==◌, list_any, AllByRecursion, option_map_or, bytes_eq, eqb-true, eq-eqb, false_from_ne_true, filter-append, IsPermutation-refl, IsPermutation-sym, IsPermutation-trans, IsPermutation-map, IsPermutation-append_left, IsPermutation-append_right, list_any-IsPermutation, all-flat_map, all_of, filter_all, IsPermutation-flat_map, IsPermutation-filter, all_weaker, none_from_any, any_from_none, Text, Number, Round, Choice, Remove, Change, AllRows, Cells, begins, after_change, TransformsRows, RoundEntry, Listed, same_key, find, take_out, put, rises, State, round_key, list_key, last_round, round_of, has_list, is_open, IsFit, with_last, list_part, list_changes, choices_added, choice_cells, choice_rows, list_rows, rows_of_round, rows_in, round_cells, Transforms, has_reading, ◌≡◌, ℕ, suc, ◌≤◌, Bool, true, false, not, cond, drop, List, [], ◌∷◌, ◌++◌, map, Option, Some, is_some, refl, sym, ap, subst, ◌∙◌, arith, true≢false, append_assoc, filter}
 use Rattle.change_laws.proofs.KeyTests.{and_true, number_test, code_test}
 use Rattle.change_laws.proofs.Keyed.{none_taken, rows_left, rows_stay, filter_alike, none_left, begins_both}
 use Rattle.change_laws.proofs.Changes.{SameElsewhere, AreFree, add, added_transforms, change_elsewhere}

@@ -1,9 +1,6 @@
 -- Who is on a roll of a fit office has a code, and what its lists name is on its rolls. The rows of a roll know who is on it.
-use Rattle.std.proofs.Common.{◌≡◌, ℕ, ◌<◌, true, List, [], Option, Some, None, is_some, slice_get, refl, ap, ◌∙◌, arith}
-use Rattle.change_laws.proofs.Common.{AllByRecursion, option_map_or, RANKS, Number, Text, Supervisor, Project, Student, Round, ProjectEntry, StudentEntry, RoundEntry, Listed, Key, find, State, supervisor_key, project_key, student_key, round_key, list_key, has_supervisor, has_project, has_student, round_of, lists_of, list_of, choices_in, IsFit, ProjectFits, StudentFits, ListFits, supervisor_cells, project_cells, student_cells, round_cells, rows_in, found_key, holds_of_found}
-use Rattle.spa.specs.Text.{is_code}
+use Rattle.change_laws.proofs.Common.{AllByRecursion, option_map_or, RANKS, Number, Text, Supervisor, Project, Student, Round, ProjectEntry, StudentEntry, RoundEntry, Listed, Key, find, State, supervisor_key, project_key, student_key, round_key, list_key, has_supervisor, has_project, has_student, round_of, lists_of, list_of, choices_in, IsFit, ProjectFits, StudentFits, ListFits, supervisor_cells, project_cells, student_cells, round_cells, rows_in, found_key, holds_of_found, ◌≡◌, ℕ, ◌<◌, true, List, [], Option, Some, None, is_some, slice_get, refl, ap, ◌∙◌, arith, is_code, IsKnown}
 use Rattle.std.proofs.lemmas.Option.{slice_get_within}
-use Rattle.change_laws.specs.Allowed.{IsKnown}
 use Rattle.change_laws.proofs.Entries.{all_at}
 use Rattle.change_laws.proofs.KeyTests.{number_test, code_test}
 use Rattle.change_laws.proofs.OneRow.{any_found}

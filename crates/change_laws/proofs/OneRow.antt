@@ -1,6 +1,5 @@
 -- A put of an entry that has one row: the row goes in the place of the one with its key, or is added where none has it.
-use Rattle.std.proofs.Common.{◌≡◌, Bool, true, false, cond, List, [], ◌∷◌, map, Some, is_some, refl, sym, ap, subst, ◌∙◌}
-use Rattle.change_laws.proofs.Common.{◌||◌, list_any, first_so, second_so, is_eq, Ordering, Less, Equal, Greater, IsPermutation-refl, IsPermutation-map, IsPermutation-same, Table, Supervisor, Project, Student, Import, Put, Add, AllRows, Cells, RowOf, begins, key_in, TransformsRows, SupervisorEntry, ProjectEntry, StudentEntry, ImportEntry, Key, key_cmp, same_key, by_order, find, has, put, is_below, rises, rows_in, supervisor_cells, project_cells, student_cells, import_cells, Transforms, State, supervisor_key, project_key, student_key, import_key, has_supervisor, has_project, has_student, has_import, with_import, put_or_added, below_all, find_below, keys_exact}
+use Rattle.change_laws.proofs.Common.{◌||◌, list_any, first_so, second_so, is_eq, Ordering, Less, Equal, Greater, IsPermutation-refl, IsPermutation-map, IsPermutation-same, Table, Supervisor, Project, Student, Import, Put, Add, AllRows, Cells, RowOf, begins, key_in, TransformsRows, SupervisorEntry, ProjectEntry, StudentEntry, ImportEntry, Key, key_cmp, same_key, by_order, find, has, put, is_below, rises, rows_in, supervisor_cells, project_cells, student_cells, import_cells, Transforms, State, supervisor_key, project_key, student_key, import_key, has_supervisor, has_project, has_student, has_import, with_import, put_or_added, below_all, find_below, keys_exact, ◌≡◌, Bool, true, false, cond, List, [], ◌∷◌, map, Some, is_some, refl, sym, ap, subst, ◌∙◌}
 use Rattle.change_laws.proofs.FitAfterPut.{with_supervisor, with_project, with_student}
 use Rattle.change_laws.proofs.KeyTests.{code_test}
 use Rattle.change_laws.proofs.Keyed.{AreNew, added_beside}

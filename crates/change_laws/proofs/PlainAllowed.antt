@@ -1,13 +1,6 @@
 -- The changes of a plain request that is not refused are allowed over the rows of a fit office, and few. What the request is judged by
 -- bounds what its rows have, and knows whom they name. A list goes before its choices come, and these are different.
-use Rattle.std.proofs.Common.{◌≡◌, ℕ, suc, ◌+◌, ◌≤◌, inl, inr, Bool, true, false, eqb, drop, List, [], ◌∷◌, ◌++◌, map, filter, length, Option, Some, None, is_some, refl, sym, ap, ◌∙◌, arith}
-use Rattle.change_laws.proofs.Common.{flat_map, ◌&&◌, ◌||◌, list_any, option_map_or, bytes_eq, first_so, second_so, leb-true, eq-eqb, all_weaker, any_from_none, none_from_any, none_counted, Text, Number, Table, Supervisor, Project, Student, Round, Choice, Put, Remove, AllRows, Cells, begins, key_in, after_change, RoundEntry, Listed, PutSupervisor, PutProject, PutStudent, OpenRound, PutList, DropList, ReopenRound, State, supervisor_key, project_key, student_key, round_key, has_supervisor, has_project, has_student, has_list, list_of, last_round, round_of, IsFit, plain_refusal, supervisor_tests, project_tests, student_tests, list_tests, choice_tests, changes_of, choices_added, list_changes, list_part, put_or_added, round_row, choice_rows, is_generous, rows_of_round, rows_in, supervisor_cells, project_cells, student_cells, round_cells, choice_cells, allowed, has_reading, rounds_rise, fit_shaped}
-use Rattle.spa.specs.Text.{is_code, is_label}
-use Rattle.std.proofs.lemmas.Bool.{and_left, and_right, not-true, or_from, or_parts}
-use Rattle.std.proofs.lemmas.List.Folds.{list_any-append}
-use Rattle.rolls.specs.declared.request.Plain.{Plain}
-use Rattle.change_laws.specs.Allowed.{IsAllowed, IsAllowedChange, IsKnown, IsNotChosen, IsPut, AreAllowed}
-use Rattle.change_laws.specs.Laws.{ChangesAllowed}
+use Rattle.change_laws.proofs.Common.{flat_map, ◌&&◌, ◌||◌, list_any, option_map_or, bytes_eq, first_so, second_so, leb-true, eq-eqb, all_weaker, any_from_none, none_from_any, none_counted, Text, Number, Table, Supervisor, Project, Student, Round, Choice, Put, Remove, AllRows, Cells, begins, key_in, after_change, RoundEntry, Listed, PutSupervisor, PutProject, PutStudent, OpenRound, PutList, DropList, ReopenRound, State, supervisor_key, project_key, student_key, round_key, has_supervisor, has_project, has_student, has_list, list_of, last_round, round_of, IsFit, plain_refusal, supervisor_tests, project_tests, student_tests, list_tests, choice_tests, changes_of, choices_added, list_changes, list_part, put_or_added, round_row, choice_rows, is_generous, rows_of_round, rows_in, supervisor_cells, project_cells, student_cells, round_cells, choice_cells, allowed, has_reading, rounds_rise, fit_shaped, ◌≡◌, ℕ, suc, ◌+◌, ◌≤◌, inl, inr, Bool, true, false, eqb, drop, List, [], ◌∷◌, ◌++◌, map, length, Option, Some, None, is_some, refl, sym, ap, ◌∙◌, arith, is_code, is_label, and_left, and_right, not-true, or_from, or_parts, list_any-append, Plain, IsAllowed, IsAllowedChange, IsKnown, IsNotChosen, IsPut, AreAllowed, ChangesAllowed, filter}
 use Rattle.change_laws.proofs.Apart.{one_picked}
 use Rattle.change_laws.proofs.Changes.{add}
 use Rattle.change_laws.proofs.Choices.{rows_are}

@@ -1,6 +1,5 @@
 -- The changes of each plain request transform the rows of the office into those of the office after it.
-use Rattle.std.proofs.Common.{◌≡◌, ℕ, true, List, [], None, arith}
-use Rattle.change_laws.proofs.Common.{eqb-false, IsPermutation-refl, IsPermutation-flat_map, Listed, PutSupervisor, PutProject, PutStudent, OpenRound, PutList, DropList, ReopenRound, put, take_out, State, list_key, has_list, last_round, IsFit, plain_refusal, list_tests, drop_tests, reopening_tests, after_plain, changes_of, list_rows, rows_in, Transforms, allowed, ChangesTransform}
+use Rattle.change_laws.proofs.Common.{eqb-false, IsPermutation-refl, IsPermutation-flat_map, Listed, PutSupervisor, PutProject, PutStudent, OpenRound, PutList, DropList, ReopenRound, put, take_out, State, list_key, has_list, last_round, IsFit, plain_refusal, list_tests, drop_tests, reopening_tests, after_plain, changes_of, list_rows, rows_in, Transforms, allowed, ChangesTransform, ◌≡◌, ℕ, true, List, [], None, arith}
 use Rattle.change_laws.proofs.Entries.{not_false}
 use Rattle.change_laws.proofs.Keyed.{put_beside}
 use Rattle.change_laws.proofs.Changes.{nothing_transforms}

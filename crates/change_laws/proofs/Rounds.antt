@@ -1,7 +1,6 @@
 -- The next round opens, or the last one opens again or closes: its row comes or is put in its place, its lists keep their rows, and
 -- placements go.
-use Rattle.std.proofs.Common.{◌≡◌, ℕ, ◌+◌, ◌≤◌, Bool, true, false, not, List, [], ◌∷◌, map, Option, Some, is_some, refl, sym, ap, subst, ◌∙◌, arith}
-use Rattle.change_laws.proofs.Common.{flat_map, IsPermutation, ◌&&◌, ◌==◌, option_map_or, nat_tests, IsPermutation-refl, IsPermutation-sym, IsPermutation-trans, IsPermutation-same, IsPermutation-flat_map, filter-map, filter_same, Aim, Round, RoundAim, Choice, Placement, Put, Add, Remove, Change, TransformsRows, RoundEntry, AimEntry, PlacementEntry, find, put, take_out, State, round_key, aim_key, last_round, round_of, IsFit, with_last, after_opening, after_reopening, round_row, placed_part, opening_changes, reopening_changes, aim_cells, round_cells, placement_cells, rows_of_round, rows_in, Transforms, aimed_found, no_round_above, some_round, round_number, rounds_rise, fit_shaped}
+use Rattle.change_laws.proofs.Common.{flat_map, IsPermutation, ◌&&◌, ◌==◌, option_map_or, nat_tests, IsPermutation-refl, IsPermutation-sym, IsPermutation-trans, IsPermutation-same, IsPermutation-flat_map, filter-map, filter_same, Aim, Round, RoundAim, Choice, Placement, Put, Add, Remove, Change, TransformsRows, RoundEntry, AimEntry, PlacementEntry, find, put, take_out, State, round_key, aim_key, last_round, round_of, IsFit, with_last, after_opening, after_reopening, round_row, placed_part, opening_changes, reopening_changes, aim_cells, round_cells, placement_cells, rows_of_round, rows_in, Transforms, aimed_found, no_round_above, some_round, round_number, rounds_rise, fit_shaped, ◌≡◌, ℕ, ◌+◌, ◌≤◌, Bool, true, false, not, List, [], ◌∷◌, map, Option, Some, is_some, refl, sym, ap, subst, ◌∙◌, arith}
 use Rattle.change_laws.proofs.KeyTests.{and_true, number_test}
 use Rattle.change_laws.proofs.Keyed.{put_beside, found_beside, added_beside}
 use Rattle.change_laws.proofs.Changes.{SameElsewhere, one_transforms, transforms_follow}

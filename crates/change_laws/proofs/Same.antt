@@ -1,6 +1,5 @@
 -- Lists that are one before or after a permutation.
-use Rattle.std.proofs.Common.{◌≡◌, List, sym, subst}
-use Rattle.change_laws.proofs.Common.{IsPermutation}
+use Rattle.change_laws.proofs.Common.{IsPermutation, ◌≡◌, List, sym, subst}
 
 pub from_same : {X : Type 0} {xs ys zs : List X} → xs ≡ ys → IsPermutation ys zs → IsPermutation xs zs
 from_same {zs = zs} e p = subst (λ l. IsPermutation l zs) (sym e) p

@@ -1,9 +1,6 @@
 -- A fit office stays fit when a round is opened, a list is put or dropped, and the last round is opened again. An open round has
 -- placed nobody, so no placement looks at a list that changes; a reopening leaves the placements of earlier rounds.
-use Rattle.std.proofs.Common.{◌+◌, ◌≡◌, ℕ, ◌-◌, ◌<◌, inl, inr, Bool, true, false, not, cond, List, [], Option, Some, None, slice_get, refl, sym, ap, subst, ◌∙◌, arith}
-use Rattle.change_laws.proofs.Common.{◌==◌, nat_lt, option_map_or, AllByRecursion, cases_eq, eq-eqb, option_filter, MAX_ROUNDS, Aim, Listed, rises, State, list_key, placement_key, placement_of, lists_of, round_of, last_round, is_open, is_closed, IsFit, ListFits, PlacementFits, with_last, after_opening, after_reopening, rises-filter, closed_before, last_kept, numbered_kept, last_open_kept, other_kept, reading_kept, reading_changed, aimed_kept, aimed_put, next, last_after_opening, numbered_after_opening, last_open_after_opening, reading_after_opening, other_after_opening, closed_within, same_lists, has_reading}
-use Rattle.rolls.specs.declared.rounds.Round.{Round}
-use Rattle.rolls.specs.declared.rounds.Placement.{Placement}
+use Rattle.change_laws.proofs.Common.{◌==◌, nat_lt, option_map_or, AllByRecursion, cases_eq, eq-eqb, option_filter, MAX_ROUNDS, Aim, Listed, rises, State, list_key, placement_key, placement_of, lists_of, round_of, last_round, is_open, is_closed, IsFit, ListFits, PlacementFits, with_last, after_opening, after_reopening, rises-filter, closed_before, last_kept, numbered_kept, last_open_kept, other_kept, reading_kept, reading_changed, aimed_kept, aimed_put, next, last_after_opening, numbered_after_opening, last_open_after_opening, reading_after_opening, other_after_opening, closed_within, same_lists, has_reading, ◌+◌, ◌≡◌, ℕ, ◌-◌, ◌<◌, inl, inr, Bool, true, false, not, cond, List, [], Option, Some, None, slice_get, refl, sym, ap, subst, ◌∙◌, arith, RoundEntry as Round, PlacementEntry as Placement}
 use Rattle.rolls.proofs.EntryChange.{all_weaker}
 use Rattle.change_laws.proofs.Entries.{all_kept, count_kept, find-filter}
 use Rattle.change_laws.proofs.FitAfterPut.{fit_with_rounds}

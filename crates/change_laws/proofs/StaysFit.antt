@@ -1,7 +1,5 @@
 -- A fit office is fit after each plain request that it does not refuse.
-use Rattle.std.proofs.Common.{◌≡◌, ℕ, true, false, not, List, [], length, Option, Some, None, is_some, refl}
-use Rattle.change_laws.proofs.Common.{◌&&◌, nat_le, nat_lt, option_map_or, first_so, second_so, leb-true, leb-false, RANKS, MAX_ROUNDS, Listed, put, take_out, same_key, Aim, State, list_key, lists_of, placement_of, last_round, IsFit, ListFits, PutSupervisor, PutProject, PutStudent, OpenRound, PutList, DropList, ReopenRound, plain_refusal, supervisor_tests, project_tests, student_tests, opening_tests, list_tests, drop_tests, after_plain, allowed, rises-put, rises-filter, all-put, StaysFit}
-use Rattle.rolls.specs.declared.rounds.Placement.{Placement}
+use Rattle.change_laws.proofs.Common.{◌&&◌, nat_le, nat_lt, option_map_or, first_so, second_so, leb-true, leb-false, RANKS, MAX_ROUNDS, Listed, put, take_out, same_key, Aim, State, list_key, lists_of, placement_of, last_round, IsFit, ListFits, PutSupervisor, PutProject, PutStudent, OpenRound, PutList, DropList, ReopenRound, plain_refusal, supervisor_tests, project_tests, student_tests, opening_tests, list_tests, drop_tests, after_plain, allowed, rises-put, rises-filter, all-put, StaysFit, ◌≡◌, ℕ, true, false, not, List, [], length, Option, Some, None, is_some, refl, PlacementEntry as Placement}
 use Rattle.change_laws.proofs.Entries.{not_false, not_above, all_kept}
 use Rattle.change_laws.proofs.KnownChoices.{choices_known, choices_distinct}
 use Rattle.change_laws.proofs.FitAfterPut.{fit_with_supervisor, fit_with_project, fit_with_student}

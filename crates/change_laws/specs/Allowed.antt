@@ -1,17 +1,9 @@
 -- Rows that a table takes, as its rules have it, and changes that bring no others.
-use Rattle.std.specs.Prelude.{◌≡◌, ◌⊎◌, ◌≤◌, ◌<◌, ◌^◌, ⊤, ◌&&◌, ℕ, Bool, true, false, List, [], ◌∷◌, drop, filter, length}
-use Rattle.std.specs.List.{AllByRecursion, list_any}
+use Rattle.std.specs.Prelude.{◌≡◌, ◌⊎◌, ◌≤◌, ◌<◌, ◌^◌, ◌&&◌, ◌∷◌, ⊤, ℕ, Bool, true, false, List, [], drop, filter, length}
+use Rattle.change_laws.specs.Common.{AllByRecursion, list_any, Table, Supervisor, Project, Student, Round, Import, RoundAim, Choice, Placement, Change, Put, Add, Remove, AllRows, Cells, RowOf, begins, key_in, after_change, ImportKind, flag}
 use Rattle.row_model.specs.declared.cell.Cell.{Cell}
 use Rattle.row_model.specs.declared.cell.Cell.TheVariants.{Text, Number, Bytes}
-use Rattle.row_model.specs.declared.table.Table.{Table}
-use Rattle.row_model.specs.declared.table.Table.TheVariants.{Supervisor, Project, Student, Round, Import, RoundAim, Choice, Placement}
-use Rattle.row_model.specs.declared.row.Change.{Change}
-use Rattle.row_model.specs.declared.row.Change.TheVariants.{Put, Add, Remove}
 use Rattle.row_model.specs.declared.row.Group.TheVariants.{List as OfList, Placed}
-use Rattle.row_model.specs.Rows.{AllRows, Cells, RowOf, begins, key_in}
-use Rattle.row_model.specs.Changes.{after_change}
-use Rattle.rolls.specs.declared.import.ImportKind.{ImportKind}
-use Rattle.rolls.specs.Rows.{flag}
 use Rattle.rolls.specs.Kinds.{word_of}
 
 -- some row of the table begins with this cell

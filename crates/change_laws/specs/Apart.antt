@@ -1,8 +1,6 @@
 -- Rows of different keys.
 use Rattle.std.specs.Prelude.{◌≤◌, List, length, filter}
-use Rattle.std.specs.List.{AllByRecursion}
-use Rattle.row_model.specs.declared.table.Table.{Table}
-use Rattle.row_model.specs.Rows.{Cells, begins, key_in}
+use Rattle.change_laws.specs.Common.{AllByRecursion, Table, Cells, begins, key_in}
 
 -- each row is alone at its key
 abbrev pub AreApart : Table → List Cells → Type 0

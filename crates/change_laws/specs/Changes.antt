@@ -1,15 +1,7 @@
 -- The changes of the tables that a plain request makes, the first of them first.
-use Rattle.std.specs.Prelude.{ℕ, ◌==◌, not, List, [], ◌∷◌, ◌++◌, length, filter, if◌then◌else◌}
+use Rattle.std.specs.Prelude.{◌==◌, ◌∷◌, ◌++◌, if◌then◌else◌, ℕ, not, List, [], length, filter}
+use Rattle.change_laws.specs.Common.{Import, Change, Add, ImportKind, Plain, State, has_import, after_plain, changes_of, import_cells}
 use Rattle.rolls.specs.declared.rounds.Placement.{Placement}
-use Rattle.row_model.specs.declared.table.Table.TheVariants.{Import}
-use Rattle.row_model.specs.declared.row.Change.{Change}
-use Rattle.row_model.specs.declared.row.Change.TheVariants.{Add}
-use Rattle.rolls.specs.declared.import.ImportKind.{ImportKind}
-use Rattle.rolls.specs.declared.request.Plain.{Plain}
-use Rattle.rolls.specs.State.{State, has_import}
-use Rattle.rolls.specs.Stepping.{after_plain}
-use Rattle.rolls.specs.Making.{changes_of}
-use Rattle.rolls.specs.Rows.{import_cells}
 
 -- the placements of other rounds
 abbrev pub kept_placements : ℕ → List Placement → List Placement

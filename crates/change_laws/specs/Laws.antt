@@ -1,19 +1,10 @@
 -- What requests and their changes make of a fit office and of its rows, as lists in whatever order.
-use Rattle.std.specs.Prelude.{◌≡◌, ◌≤◌, ◌^◌, ℕ, List, None, Ok, ◌++◌, length}
+use Rattle.std.specs.Prelude.{◌≡◌, ◌≤◌, ◌^◌, ◌++◌, ℕ, List, None, Ok, length}
+use Rattle.change_laws.specs.Common.{ImportKind, Plain, State, after_plain, Change, Table, AllRows, SameRows, TransformsRows, rows_in, Transforms, changes_of}
 use Rattle.rolls.specs.declared.TheConstants.{MAX_IMPORT_BYTES}
-use Rattle.rolls.specs.declared.import.ImportKind.{ImportKind}
-use Rattle.rolls.specs.declared.request.Plain.{Plain}
-use Rattle.rolls.specs.State.{State}
 use Rattle.rolls.specs.Fit.{IsFit}
 use Rattle.rolls.specs.Importing.{after_rows, import_refusal}
 use Rattle.rolls.specs.Refusing.{plain_refusal}
-use Rattle.rolls.specs.Stepping.{after_plain}
-use Rattle.row_model.specs.declared.row.Change.{Change}
-use Rattle.row_model.specs.declared.table.Table.{Table}
-use Rattle.row_model.specs.Rows.{AllRows, SameRows}
-use Rattle.row_model.specs.Changes.{TransformsRows}
-use Rattle.rolls.specs.Rows.{rows_in, Transforms}
-use Rattle.rolls.specs.Making.{changes_of}
 use Rattle.change_laws.specs.Allowed.{AreAllowed}
 use Rattle.change_laws.specs.Apart.{AreApart}
 use Rattle.change_laws.specs.Changes.{import_changes}

@@ -1,18 +1,13 @@
 -- The changes of closing are allowed over the rows of the office before, and few: the placements fit the office after it, which differs
 -- from the rows when theirs come only in placements.
-use Rattle.std.proofs.Common.{◌-◌, false, List, [], ◌∷◌, map, refl, length-append, arith}
-use Rattle.closing.proofs.Common.{AllByRecursion, length-map, PlacementEntry, State, placement_key, last_round, with_last, IsFit, PlacementFits, placement_cells, rows_in, kept, after_close, open_within, all_beside, all_weaker, few_placed, placement_added}
-use Rattle.std.proofs.lemmas.List.Sorted.{length_permutation}
-use Rattle.row_model.specs.declared.row.Change.TheVariants.{Put}
+use Rattle.std.proofs.Common.{length-append}
+use Rattle.closing.proofs.Common.{AllByRecursion, length-map, PlacementEntry, State, placement_key, last_round, with_last, IsFit, PlacementFits, placement_cells, rows_in, kept, after_close, open_within, all_beside, all_weaker, few_placed, placement_added, ◌-◌, false, List, [], ◌∷◌, map, refl, arith, length_permutation, Put, after_change, round_transforms, ClosingAllowed, ClosingFew}
 use Rattle.row_model.specs.declared.table.Table.TheVariants.{Placement}
 use Rattle.row_model.specs.Rows.{AllRows}
-use Rattle.row_model.specs.Changes.{after_change}
 use Rattle.change_laws.specs.Allowed.{IsWithin, IsShort, AreAllowed}
 use Rattle.change_laws.proofs.Allowed.{allowed_follow}
 use Rattle.change_laws.proofs.OnRolls.{known_project, known_round, known_student, listed, project_code, student_code}
 use Rattle.change_laws.proofs.PlainAllowed.{round_allowed, short_code}
-use Rattle.change_laws.proofs.Rounds.{round_transforms}
-use Rattle.closing.specs.Laws.{ClosingAllowed, ClosingFew}
 use Rattle.closing.proofs.Kept.{close_keeps_fit, kept_fit}
 use Rattle.closing.proofs.Unplaced.{pairs_new}
 

@@ -1,15 +1,10 @@
 -- A round that closes: its row is put, and the rows of placements come, of students who have none.
-use Rattle.std.proofs.Common.{false, List, [], ◌∷◌, ◌++◌, map, sym, subst}
-use Rattle.closing.proofs.Common.{IsPermutation, map-append, PlacementEntry, put_all, placement_cells, rows_in, State, placement_key, last_round, with_last, kept, after_close, open_within, all_beside, placement_added, ClosingTransforms}
-use Rattle.std.proofs.lemmas.List.Sorted.{IsPermutation-refl, IsPermutation-map}
+use Rattle.closing.proofs.Common.{IsPermutation, map-append, PlacementEntry, put_all, placement_cells, rows_in, State, placement_key, last_round, with_last, kept, after_close, open_within, all_beside, placement_added, ClosingTransforms, false, List, [], ◌∷◌, ◌++◌, map, sym, subst, IsPermutation-refl, IsPermutation-map, Put, TransformsRows, round_transforms}
 use Rattle.sqlite_keyed.proofs.ListLemmas.{map-map}
-use Rattle.row_model.specs.declared.row.Change.TheVariants.{Put}
 use Rattle.row_model.specs.declared.table.Table.TheVariants.{Placement}
-use Rattle.row_model.specs.Changes.{TransformsRows}
 use Rattle.change_laws.proofs.Changes.{SameElsewhere, add, added_transforms, transforms_follow}
 use Rattle.change_laws.proofs.KeyTests.{code_test}
 use Rattle.change_laws.proofs.OneRow.{rows_free}
-use Rattle.change_laws.proofs.Rounds.{round_transforms}
 use Rattle.change_laws.proofs.Same.{from_same}
 use Rattle.closing.proofs.Unplaced.{pairs_new}
 

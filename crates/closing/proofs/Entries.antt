@@ -1,6 +1,6 @@
 -- Lists of entries: what is counted and found in them and in what is made of them, and how keys rise.
-use Rattle.std.proofs.Common.{◌≡◌, ℕ, ◌≤◌, inl, inr, Bool, true, false, cond, List, [], ◌∷◌, map, count_by, find, Option, Some, option_map, refl, ap, ◌∙◌, arith}
-use Rattle.closing.proofs.Common.{AllByRecursion, bytes_eq, cases_Bool, sum_by-cons, Key, same_key, entry, same_code}
+use Rattle.std.proofs.Common.{find}
+use Rattle.closing.proofs.Common.{AllByRecursion, bytes_eq, cases_Bool, sum_by-cons, Key, same_key, entry, same_code, ◌≡◌, ℕ, ◌≤◌, inl, inr, Bool, true, false, cond, List, [], ◌∷◌, map, count_by, Option, Some, option_map, refl, ap, ◌∙◌, arith}
 
 -- ---- what holds of each
 

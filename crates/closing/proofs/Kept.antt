@@ -1,11 +1,57 @@
 -- A matching of the open round, kept: the office stays fit. Putting placements counts no more of them than there were and are
 -- put, so what is left of the quotas bounds them; and what is found afterwards was found before, or is by the round that closes.
-use Rattle.std.proofs.Common.{◌≡◌, ℕ, zero, suc, ◌+◌, ◌-◌, ◌<◌, ◌≤◌, inl, inr, true, false, not, List, [], ◌∷◌, length, map, count_by, Option, Some, None, Contains, slice_get, get_or, refl, sym, ap, ◌∙◌, subst, arith}
-use Rattle.closing.proofs.Common.{nat_lt, option_map_or, AllByRecursion, prefix_len, bytes_eq, le-ltb, cases_Bool, bytes_eq-Decides, recursion_from_All, CodePair, choices_of, offerer_of, rank_by_codes, put_all, rises, Listed, Placement, State, list_key, placement_key, last_round, round_of, is_closed, lists_of, choices_in, is_offered_by, is_placed_before, quota_in, quota_with, round_instance, IsFit, ListFits, PlacementFits, MayClose, kept, after_close, all_weaker, has_reading, closed_before, round_within, aimed_kept, last_kept, numbered_kept, last_open_kept, other_kept, reading_kept, reading_changed, same_lists}
+use Rattle.closing.proofs.Common.{nat_lt, option_map_or, AllByRecursion, prefix_len, bytes_eq, le-ltb, cases_Bool, bytes_eq-Decides, recursion_from_All, CodePair, choices_of, offerer_of, rank_by_codes, put_all, rises, Listed, Placement, State, list_key, placement_key, last_round, round_of, is_closed, lists_of, choices_in, is_offered_by, is_placed_before, quota_in, quota_with, round_instance, IsFit, ListFits, PlacementFits, MayClose, kept, after_close, all_weaker, has_reading, closed_before, round_within, aimed_kept, last_kept, numbered_kept, last_open_kept, other_kept, reading_kept, reading_changed, same_lists, ◌≡◌, ℕ, zero, suc, ◌+◌, ◌-◌, ◌<◌, ◌≤◌, inl, inr, true, false, not, List, [], ◌∷◌, length, map, count_by, Option, Some, None, Contains, slice_get, get_or, refl, sym, ap, ◌∙◌, subst, arith, places_in, places_with, Supervisor, Project, Key, find, supervisor_key, project_key, supervisor_of, project_of, list_of, placed_in_project, placed_with_supervisor, found_key, option_map}
 use Rattle.rolls.specs.declared.rounds.Round.{Round}
-use Rattle.closing.proofs.Entries.{all_made, all_always, count_made, count_fewer}
+use Rattle.closing.proofs.Entries.{all_made, all_always, count_made, count_fewer, find_made}
 use Rattle.closing.proofs.ManyPuts.{rises_put_all, all_put_all, found_put_all, count_put_all}
-use Rattle.closing.proofs.OpenRound.{places_left, places_with_left, same_offerer, same_choices}
+use Rattle.spa.specs.Instance as spa
+
+-- ---- the instance of the last round
+
+-- a quota of a roll less what f counts at the code
+left : {E D : Type 0} (key : E → Key) (code : E → List ℕ) → ((e : E) → key e ≡ (0, code e)) → (quota : E → ℕ) (made : E → D) (less : D → ℕ) (f : List ℕ → ℕ) → ((e : E) → less (made e) ≡ quota e - f (code e)) → (c : List ℕ) (es : List E) (x : Option E)
+    → find key (0, c) es ≡ x → option_map_or less (option_map made x) 0 ≡ option_map_or quota x 0 - f c
+left key code coded quota made less f is c es None h = omega arith
+left key code coded quota made less f is c es (Some e) h =
+    let same : c ≡ code e = ap (λ (k : Key). k.1) (found_key key (0, c) es e h ∙ coded e) in
+    is e ∙ ap (λ d. quota e - f d) (sym same)
+
+module _ (o : State) where
+  -- a project has the places that it has left
+  pub places_left : (p : List ℕ) → places_in (round_instance o) p ≡ quota_in o p - placed_in_project o p
+  places_left p =
+      let made : Project → spa.Project = λ e. record { code = e.code; supervisor = e.supervisor; quota = e.quota - placed_in_project o e.code } in
+      ap (λ (x : Option spa.Project). option_map_or (λ e. e.quota) x 0) (find_made project_key made (λ e. e.code) (λ e. refl) p o.projects)
+      ∙ left project_key (λ (e : Project). e.code) (λ e. refl) (λ e. e.quota) made (λ e. e.quota) (placed_in_project o) (λ e. refl) p o.projects (project_of o p) refl
+
+  -- so has a supervisor
+  pub places_with_left : (s : List ℕ) → places_with (round_instance o) s ≡ quota_with o s - placed_with_supervisor o s
+  places_with_left s =
+      let made : Supervisor → spa.Supervisor = λ e. record { code = e.code; quota = e.quota - placed_with_supervisor o e.code } in
+      ap (λ (x : Option spa.Supervisor). option_map_or (λ e. e.quota) x 0) (find_made supervisor_key made (λ e. e.code) (λ e. refl) s o.supervisors)
+      ∙ left supervisor_key (λ (e : Supervisor). e.code) (λ e. refl) (λ e. e.quota) made (λ e. e.quota) (placed_with_supervisor o) (λ e. refl) s o.supervisors (supervisor_of o s) refl
+
+  -- who offers a project stays
+  pub same_offerer : (s p : List ℕ) → is_offered_by o s p ≡ true → bytes_eq s (offerer_of (round_instance o) p) ≡ true
+  same_offerer s p offered =
+      let made : Project → spa.Project = λ e. record { code = e.code; supervisor = e.supervisor; quota = e.quota - placed_in_project o e.code } in
+      ap (λ (x : Option spa.Project). bytes_eq s (option_map_or (λ e. e.supervisor) x [])) (find_made project_key made (λ e. e.code) (λ e. refl) p o.projects)
+      ∙ inside made (project_of o p) (λ e. refl) offered
+    where
+      inside : (made : Project → spa.Project) (x : Option Project) → ((e : Project) → (made e).supervisor ≡ e.supervisor) → option_map_or (λ e. bytes_eq s e.supervisor) x false ≡ true → bytes_eq s (option_map_or (λ e. e.supervisor) (option_map made x) []) ≡ true
+      inside made None is h = absurd (cc)
+      inside made (Some e) is h = ap (bytes_eq s) (is e) ∙ h
+
+  -- a student lists what the list of the last round has
+  pub same_choices : (s : List ℕ) → choices_of (round_instance o) s ≡ choices_in o (last_round o) s
+  same_choices s =
+      let made : Listed → spa.Student = λ l. record { code = l.student; list = l.choices } in
+      ap (λ (x : Option spa.Student). option_map_or (λ e. e.list) x []) (find_made list_key made (λ e. e.code) (λ e. refl) s (lists_of o (last_round o)))
+      ∙ inside made (list_of o (last_round o) s) (λ e. refl)
+    where
+      inside : (made : Listed → spa.Student) (x : Option Listed) → ((e : Listed) → (made e).list ≡ e.choices) → option_map_or (λ e. e.list) (option_map made x) [] ≡ option_map_or (λ e. e.choices) x []
+      inside made None is = refl
+      inside made (Some e) is = is e
 
 -- a round that is closed
 abbrev pub closed_round : Round → Round

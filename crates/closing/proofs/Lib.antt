@@ -3,7 +3,6 @@ pub mod Entries
 pub mod ManyPuts
 pub mod UniqueCodes
 pub mod RoundInstance
-pub mod OpenRound
 pub mod PairsByCode
 pub mod PlacesAreRanks
 pub mod Kept

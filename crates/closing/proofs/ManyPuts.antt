@@ -1,6 +1,5 @@
 -- Entries put one after another: each fact of a put, for all of them.
-use Rattle.std.proofs.Common.{◌≡◌, ◌+◌, ◌≤◌, Bool, true, false, cond, List, [], ◌∷◌, ◌++◌, count_by, Option, Some, refl, sym, subst, arith}
-use Rattle.closing.proofs.Common.{AllByRecursion, Ordering, Less, Equal, Greater, sum_by-cons, Key, key_cmp, same_key, by_order, find, put, put_all, rises, find-put, all-put, rises-put}
+use Rattle.closing.proofs.Common.{AllByRecursion, Ordering, Less, Equal, Greater, sum_by-cons, Key, key_cmp, same_key, by_order, find, put, put_all, rises, find-put, all-put, rises-put, ◌≡◌, ◌+◌, ◌≤◌, Bool, true, false, cond, List, [], ◌∷◌, ◌++◌, count_by, Option, Some, refl, sym, subst, arith}
 
 module _ {E : Type 0} (key : E → Key) where
   -- the keys go on rising

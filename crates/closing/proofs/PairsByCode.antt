@@ -1,6 +1,5 @@
 -- Places that stand for a matching by positions, as pairs of codes.
-use Rattle.std.proofs.Common.{◌≡◌, List, map, length, sym, ap, ◌∙◌, subst}
-use Rattle.closing.proofs.Common.{length-map, CodePair, IsMatchingByCodes, IsBestByCodes, profile_by_codes, codes_of, taken, CodesSayTheSame, PlacesAreTaken}
+use Rattle.closing.proofs.Common.{length-map, CodePair, IsMatchingByCodes, IsBestByCodes, profile_by_codes, codes_of, taken, CodesSayTheSame, PlacesAreTaken, ◌≡◌, List, map, length, sym, ap, ◌∙◌, subst}
 use Rattle.spa.specs.Instance as spa
 use Rattle.spa.specs.Matched.{pairs}
 

@@ -1,7 +1,6 @@
 -- The placements that places in the lists of the last round make are the pairs taken at them, kept: a place is the rank of its
 -- pair, since no project stands twice in a list.
-use Rattle.std.proofs.Common.{◌≡◌, ℕ, zero, suc, ◌+◌, ◌-◌, ◌<◌, ◌≤◌, not, List, [], ◌∷◌, ◌++◌, length, map, drop, get_or, Option, Some, None, slice_get, slice_index_or, option_map, refl, sym, ap, ◌∙◌, append_assoc, arith}
-use Rattle.closing.proofs.Common.{option_map_or, AllByRecursion, prefix_len, bytes_eq, length-map, length-append, code_at, choices_of, rank_by_codes, taken, entry, Listed, Placement, State, list_key, last_round, lists_of, round_instance, IsFit, ListFits, kept, placed_at, placed_by, PlacedIsKept, PlacesAreInLists, all_two}
+use Rattle.closing.proofs.Common.{option_map_or, AllByRecursion, prefix_len, bytes_eq, length-map, length-append, code_at, choices_of, rank_by_codes, taken, entry, Listed, Placement, State, list_key, last_round, lists_of, round_instance, IsFit, ListFits, kept, placed_at, placed_by, PlacedIsKept, PlacesAreInLists, all_two, ◌≡◌, ℕ, zero, suc, ◌+◌, ◌-◌, ◌<◌, ◌≤◌, not, List, [], ◌∷◌, ◌++◌, length, map, drop, get_or, Option, Some, None, slice_get, slice_index_or, option_map, refl, sym, ap, ◌∙◌, append_assoc, arith}
 use Rattle.spa.specs.Shape.{IsPlaceOf}
 use Rattle.spa.specs.Instance as spa
 use Rattle.spa.specs.Named.{instance_of, students_named}

@@ -1,14 +1,12 @@
 -- The instance of a round of a fit office has no fault, whatever is taken, and it is what its rolls give.
-use Rattle.std.proofs.Common.{◌≡◌, ℕ, zero, suc, ◌+◌, ◌-◌, ◌<◌, ◌≤◌, true, List, [], ◌∷◌, ◌++◌, length, map, drop, get_or, Contains, Option, refl, sym, ap, ◌∙◌, subst, append_assoc, arith}
-use Rattle.closing.proofs.Common.{AllByRecursion, slice_get_within, length-map, drop_more, All-from_recursion, IsFirstRepeated, supervisor_codes, project_codes, student_codes, given, supervisors_of, projects_of, students_of, IsWithin, AreDistinct, HasDistinctCodes, IsSoundList, IsListFault, IsFirstListFault, IsFirstInstanceFault, Supervisor, Project, Listed, Placement, State, supervisor_key, project_key, list_key, lists_of, has_project, instance_left, IsFit, SupervisorFits, ProjectFits, ListFits, AreRolls, count_in, count_with, all_weaker, few_lists}
+use Rattle.closing.proofs.Common.{AllByRecursion, slice_get_within, length-map, drop_more, All-from_recursion, IsFirstRepeated, supervisor_codes, project_codes, student_codes, given, supervisors_of, projects_of, students_of, IsWithin, AreDistinct, HasDistinctCodes, IsSoundList, IsListFault, IsFirstListFault, IsFirstInstanceFault, Supervisor, Project, Listed, Placement, State, supervisor_key, project_key, list_key, lists_of, has_project, instance_left, IsFit, SupervisorFits, ProjectFits, ListFits, count_in, count_with, all_weaker, few_lists, ◌≡◌, ℕ, zero, suc, ◌+◌, ◌-◌, ◌<◌, ◌≤◌, true, List, [], ◌∷◌, ◌++◌, length, map, drop, get_or, Contains, Option, refl, sym, ap, ◌∙◌, append_assoc, arith}
 use Rattle.spa.specs.declared.TheConstants.{MAX_QUOTA}
 use Rattle.spa.specs.declared.fault.Roll.TheVariants.{Supervisors, Projects, Students}
 use Rattle.spa.specs.declared.fault.InstanceFault.{InstanceFault}
 use Rattle.spa.specs.declared.fault.InstanceFault.TheVariants.{Memory, Limit, RepeatedCode, UnknownSupervisor, ListLength, UnknownProject, RepeatedProject}
 use Rattle.spa.specs.Instance as spa
-use Rattle.rolls.proofs.Positions.{fit_rolls}
 use Rattle.closing.specs.Inside.Handed as handed
-use Rattle.closing.specs.Handed.{AreParts, ArePartsOfFit}
+use Rattle.closing.specs.Handed.{AreParts}
 use Rattle.closing.proofs.Entries.{all_made}
 use Rattle.change_laws.proofs.Determine.{rises_made}
 use Rattle.closing.proofs.UniqueCodes.{code_key, apart_since_rise, apart_since_distinct, contains_found, all_at}
@@ -120,12 +118,6 @@ handed_rolls up_to o n supervisors projects placements lists are ss ps ls s p li
     let c : students_of ls ≡ l.students =
     ap students_of (listed ∙ ap (map handed.student_listed) are.all_lists) ∙ map_map handed.student_listed (λ e. record { code = e.0; list = e.1 }) (lists_of o n) in
     λ i. record { supervisors = a i; projects = b i; students = c i }
-
--- the rolls of a fit office, as they are handed in
-pub parts_rolls : (supervisors : List Supervisor) (projects roll : List Project) (placements : List Placement) (lists : List Listed) → ArePartsOfFit supervisors projects placements lists → roll ≡ projects → AreRolls supervisors roll
-parts_rolls supervisors projects roll placements lists are same =
-    let o : State = are.office in
-    subst (λ (ps : List Project). AreRolls supervisors ps) (sym (same ∙ are.parts.all_projects)) (subst (λ (ss : List Supervisor). AreRolls ss o.projects) (sym are.parts.all_supervisors) (fit_rolls o are.fit))
 
 -- the entries from a place on
 from_here : {E : Type 0} (es : List E) (i : ℕ) (e : E) → i < length es → e ≡ get_or es i e → drop i es ≡ e ∷ drop (i + 1) es

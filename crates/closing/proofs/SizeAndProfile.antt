@@ -1,6 +1,5 @@
 -- What closing answers: the size and the profile of a matching are those of what is kept of it.
-use Rattle.std.proofs.Common.{◌≡◌, ℕ, Bool, ◌+◌, map, count_by, refl, ap}
-use Rattle.closing.proofs.Common.{◌==◌, ◌&&◌, eq-eqb, length-map, rank_by_codes, profile_by_codes, by_rank, kept, Placement, last_round, round_instance, KeptIsCounted}
+use Rattle.closing.proofs.Common.{◌==◌, ◌&&◌, eq-eqb, length-map, rank_by_codes, profile_by_codes, by_rank, kept, Placement, last_round, round_instance, KeptIsCounted, ◌≡◌, ℕ, Bool, ◌+◌, map, count_by, refl, ap}
 use Rattle.rolls.specs.declared.request.Reply.TheVariants as reply
 use Rattle.closing.proofs.Entries.{count_made}
 

@@ -1,7 +1,6 @@
 -- Places of a matching close the open round: the placements that they make are the pairs taken, kept, so what is made of them is
 -- what closing makes of the pairs.
-use Rattle.std.proofs.Common.{List, map, ◌≡◌, sym, ap, ◌∙◌, subst}
-use Rattle.closing.proofs.Common.{CodePair, taken, CodesSayTheSame, Placement, last_round, round_instance, IsFit, MayClose, kept, after_close, Transforms, after_placing, placed_reply, closing_changes, close_changes, PlacesClose}
+use Rattle.closing.proofs.Common.{CodePair, taken, CodesSayTheSame, Placement, last_round, round_instance, IsFit, MayClose, kept, after_close, Transforms, after_placing, placed_reply, closing_changes, close_changes, PlacesClose, List, map, ◌≡◌, sym, ap, ◌∙◌, subst}
 use Rattle.row_model.specs.declared.row.Change.{Change}
 use Rattle.closing.proofs.Kept.{close_keeps_fit}
 use Rattle.closing.proofs.ClosingRows.{close_transforms}

@@ -1,6 +1,5 @@
 -- Codes that stand once in a list, and entries that are found by their codes.
-use Rattle.std.proofs.Common.{◌≡◌, ℕ, zero, suc, ◌<◌, inl, inr, true, not, cond, List, [], ◌∷◌, length, map, Option, Some, Contains, slice_get, get_or, refl, sym, ap, ◌∙◌, subst, arith}
-use Rattle.closing.proofs.Common.{is_some, AllByRecursion, list_any, prefix_len, bytes_eq, MatchOption, Ordering, Less, Equal, Greater, cases_Bool, prefix_len_is, same_Some, slice_get-get_or, bytes_eq-Decides, Key, key_cmp, same_key, entry, is_below, rises, is_distinct, same_code, keys_total, all_above, all_two}
+use Rattle.closing.proofs.Common.{is_some, AllByRecursion, list_any, prefix_len, bytes_eq, MatchOption, Ordering, Less, Equal, Greater, cases_Bool, prefix_len_is, same_Some, slice_get-get_or, bytes_eq-Decides, Key, key_cmp, same_key, entry, is_below, rises, is_distinct, same_code, keys_total, all_above, all_two, ◌≡◌, ℕ, zero, suc, ◌<◌, inl, inr, true, not, cond, List, [], ◌∷◌, length, map, Option, Some, Contains, slice_get, get_or, refl, sym, ap, ◌∙◌, subst, arith}
 use Rattle.std.specs.Cmp.{first_so, second_so}
 use Rattle.std.specs.Ordering.{is_lt, is_eq, ordering_reverse}
 

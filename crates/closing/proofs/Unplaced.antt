@@ -1,7 +1,6 @@
 -- The students of a matching of the open round have no placement yet, and no two of its pairs are of one student: so each
 -- placement that closing adds is new. Who has a list in the open round is placed by no round before, and no other is closed.
-use Rattle.std.proofs.Common.{◌≡◌, ℕ, ◌+◌, ◌<◌, ◌≤◌, Bool, true, false, cond, List, [], ◌∷◌, map, count_by, Option, Some, None, Contains, is_some, refl, sym, ap, subst, ◌∙◌, arith}
-use Rattle.closing.proofs.Common.{nat_lt, option_map_or, AllByRecursion, bytes_eq, false_from_ne_true, lt-ltb, sum_by-cons, CodePair, Key, find, of_code, Listed, Placement, State, list_key, placement_key, last_round, list_of, lists_of, choices_in, placement_of, is_placed_before, IsFit, ListFits, PlacementFits, MayClose, kept, all_weaker, bytes_self, same_bytes, same_code, found_key, holds_of_found, closed_before, all_two, AreNew}
+use Rattle.closing.proofs.Common.{nat_lt, option_map_or, AllByRecursion, bytes_eq, false_from_ne_true, lt-ltb, sum_by-cons, CodePair, Key, find, of_code, Listed, Placement, State, list_key, placement_key, last_round, list_of, lists_of, choices_in, placement_of, is_placed_before, IsFit, ListFits, PlacementFits, MayClose, kept, all_weaker, bytes_self, same_bytes, same_code, found_key, holds_of_found, closed_before, all_two, AreNew, ◌≡◌, ℕ, ◌+◌, ◌<◌, ◌≤◌, Bool, true, false, cond, List, [], ◌∷◌, map, count_by, Option, Some, None, Contains, refl, sym, ap, subst, ◌∙◌, arith, is_some}
 use Rattle.closing.proofs.Kept.{pairs_listed}
 
 -- ---- no student twice

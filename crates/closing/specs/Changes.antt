@@ -1,18 +1,13 @@
 -- What a round that closes makes of the placements: the office after, the answer, and the changes of the tables.
-use Rattle.std.specs.Prelude.{ℕ, ◌+◌, ◌==◌, ◌&&◌, false, List, ◌∷◌, map, length, count_by}
-use Rattle.spa.specs.Coded.{CodePair}
-use Rattle.rolls.specs.declared.rounds.Placement.{Placement}
+use Rattle.std.specs.Prelude.{◌+◌, ◌==◌, ◌&&◌, ◌∷◌, ℕ, false, List, map, length, count_by}
+use Rattle.closing.specs.Common.{CodePair, Placement, put_all, State, placement_key, last_round, placement_cells, kept}
 use Rattle.row_model.specs.declared.table.Table.TheVariants.{Placement as PlacementTable}
 use Rattle.row_model.specs.declared.row.Change.{Change}
 use Rattle.row_model.specs.declared.row.Change.TheVariants.{Put, Add}
 use Rattle.rolls.specs.declared.request.Reply.{Reply}
 use Rattle.rolls.specs.declared.request.Reply.TheVariants as reply
-use Rattle.rolls.specs.Roll.{put_all}
-use Rattle.rolls.specs.State.{State, placement_key, last_round}
 use Rattle.rolls.specs.Stepping.{with_last, by_rank}
 use Rattle.rolls.specs.Making.{round_row}
-use Rattle.rolls.specs.Rows.{placement_cells}
-use Rattle.rolls.specs.Closing.{kept}
 
 -- the office after the last round closes with these placements
 abbrev pub after_placing : List Placement → State → State

@@ -1,14 +1,6 @@
 -- The parts of an office that the instance of a round is made of.
 use Rattle.std.specs.Prelude.{◌≡◌, ℕ, List, Option}
-use Rattle.spa.specs.Instance.{Instance}
-use Rattle.rolls.specs.declared.entries.Supervisor.{Supervisor}
-use Rattle.rolls.specs.declared.entries.Project.{Project}
-use Rattle.rolls.specs.declared.rounds.Listed.{Listed}
-use Rattle.rolls.specs.declared.rounds.Placement.{Placement}
-use Rattle.rolls.specs.State.{State, lists_of}
-use Rattle.rolls.specs.Counted.{count_in, count_with}
-use Rattle.rolls.specs.Fit.{IsFit}
-use Rattle.rolls.specs.Instances.{instance_left}
+use Rattle.closing.specs.Common.{Instance, Supervisor, Project, Listed, Placement, State, lists_of, count_in, count_with, IsFit, instance_left}
 
 -- these are the parts of the office, with the lists of the round n
 pub record AreParts (o : State) (n : ℕ) (supervisors : List Supervisor) (projects : List Project) (placements : List Placement) (lists : List Listed) : Type 0 where

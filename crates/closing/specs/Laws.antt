@@ -1,16 +1,8 @@
 -- Laws of rounds that close.
 use Rattle.std.specs.Prelude.{◌≡◌, ◌≤◌, ◌^◌, ℕ, IsTrue, List, map, length, Option}
-use Rattle.spa.specs.declared.TheConstants.{MAX_STUDENTS}
-use Rattle.spa.specs.Instance.{Instance}
-use Rattle.spa.specs.Coded.{CodePair, taken}
-use Rattle.rolls.specs.State.{State, last_round, round_is_open, lists_of}
-use Rattle.rolls.specs.Instances.{round_instance}
-use Rattle.rolls.specs.Fit.{IsFit}
-use Rattle.rolls.specs.Closing.{MayClose, kept, after_close, closed_reply}
+use Rattle.closing.specs.Common.{MAX_STUDENTS, Instance, CodePair, taken, State, last_round, round_is_open, lists_of, round_instance, IsFit, MayClose, kept, after_close, closed_reply, Placement, Transforms, rows_in}
 use Rattle.rolls.specs.Answers.{IsClosed}
-use Rattle.rolls.specs.declared.rounds.Placement.{Placement}
 use Rattle.rolls.specs.declared.request.Done.{Done}
-use Rattle.rolls.specs.Rows.{Transforms, rows_in}
 use Rattle.change_laws.specs.Allowed.{AreAllowed}
 use Rattle.closing.specs.Places.{placed_by, ArePlacesIn, ArePlacesOf, AreTaken}
 use Rattle.closing.specs.Changes.{after_placing, placed_reply, closing_changes, close_changes}

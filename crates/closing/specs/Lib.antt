@@ -1,3 +1,4 @@
+pub mod Common
 pub mod Handed
 pub mod Places
 pub mod Changes

@@ -1,15 +1,11 @@
 -- What places in the lists of a round make.
-use Rattle.std.specs.Prelude.{◌≡◌, ℕ, ◌-◌, List, [], ◌∷◌, map, length, slice_get, slice_index_or, Option, Some, None}
-use Rattle.spa.specs.Shape.{IsPlaceOf}
+use Rattle.std.specs.Prelude.{◌≡◌, ◌-◌, ◌∷◌, ℕ, List, [], map, length, slice_get, slice_index_or, Option, Some, None}
+use Rattle.closing.specs.Common.{IsPlaceOf, Instance, Named, instance_of, IsMatchingByCodes, IsBestByCodes, profile_by_codes, taken, Listed, Placement}
 use Rattle.spa.specs.Codes.{code_at}
-use Rattle.spa.specs.Instance.{Instance}
-use Rattle.spa.specs.Named.{Named, IsFit, instance_of}
+use Rattle.spa.specs.Named.{IsFit}
 use Rattle.spa.specs.declared.aim.Aim.{Aim}
 use Rattle.spa.specs.Matching.{IsBest, profile}
 use Rattle.spa.specs.Matched.{pairs, IsMatched}
-use Rattle.spa.specs.Coded.{IsMatchingByCodes, IsBestByCodes, profile_by_codes, taken}
-use Rattle.rolls.specs.declared.rounds.Listed.{Listed}
-use Rattle.rolls.specs.declared.rounds.Placement.{Placement}
 
 -- the placement of a student at a place of the list, from 1: the place is its rank
 abbrev pub placed_at : ℕ → Listed → ℕ → Placement

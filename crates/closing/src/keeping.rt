@@ -1,11 +1,9 @@
 //! What a matching makes of the lists of a round.
 
 ghost use Rattle.std.specs.Prelude.{◌≡◌, ◌≤◌, IfOk, length};
-ghost use Rattle.spa.specs.Shape.{IsPlaceOf};
+ghost use Rattle.closing.specs.Common.{IsPlaceOf, put_all, placement_key};
 ghost use Rattle.closing.specs.Places.{placed_at, placed_by, ArePlacesIn};
 ghost use Rattle.closing.specs.Changes.{closing_changes};
-ghost use Rattle.rolls.specs.Roll.{put_all};
-ghost use Rattle.rolls.specs.State.{placement_key};
 
 use rolls::{Change, Entries, Listed, Placement, round_row};
 use std::alloc::{AllocError, Global};

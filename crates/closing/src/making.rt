@@ -1,9 +1,7 @@
 //! The instance of a round, and what is counted of placements.
 
 ghost use Rattle.std.specs.Prelude.{◌≡◌, ◌≤◌, ℕ, List, map, length, Option, None, IfOk};
-ghost use Rattle.spa.specs.declared.TheConstants.{MAX_PROJECTS, MAX_SUPERVISORS};
-ghost use Rattle.spa.specs.Named.{instance_of};
-ghost use Rattle.rolls.specs.Counted.{count_in, count_with, offers};
+ghost use Rattle.closing.specs.Common.{MAX_PROJECTS, MAX_SUPERVISORS, instance_of, count_in, count_with, offers};
 ghost use Rattle.closing.specs.Handed.{ArePartsOfFit, IsInstanceLeft};
 ghost use Rattle.closing.specs.Inside.Handed.{AreProjectsLeft, AreSupervisorsLeft, student_listed};
 

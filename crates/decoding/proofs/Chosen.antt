@@ -1,6 +1,5 @@
 -- A round is taken out of the rounds and put in again with one more choice: the row of the choice is taken in.
-use Rattle.std.proofs.Common.{◌≡◌, ℕ, ◌+◌, Bool, true, false, cond, List, [], length, Option, Some, None, refl, sym, ap, ◌∙◌}
-use Rattle.decoding.proofs.Common.{eq-eqb, Round, Listed, Key, find, put, take_out, rises, same_key, State, round_key, round_of, find-put, find-take_out, found_key, rises-put, rises-filter, where_so, choices_among, with_choice, with_next}
+use Rattle.decoding.proofs.Common.{eq-eqb, Round, Listed, Key, find, put, take_out, rises, same_key, State, round_key, round_of, find-put, find-take_out, found_key, rises-put, rises-filter, where_so, choices_among, with_choice, with_next, ◌≡◌, ℕ, ◌+◌, Bool, true, false, cond, List, [], length, Option, Some, None, refl, sym, ap, ◌∙◌}
 use Rattle.rolls.proofs.Same.{same_found}
 
 over_none : {A : Type 0} (b : Bool) (x y : Option A) → cond b x (cond b None y) ≡ cond b x y

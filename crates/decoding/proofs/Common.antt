@@ -2,6 +2,8 @@
 pub use Rattle.change_laws.proofs.Found.{StandsIn, each_found}
 pub use Rattle.change_laws.proofs.KeyTests.{and_true, code_test, number_test}
 pub use Rattle.change_laws.proofs.Keyed.{added_beside, begins_both, begins_self, found_beside, none_taken, put_beside}
+pub use Rattle.change_laws.proofs.OnRolls.{IsListed, known_code, listed, project_code, student_code}
+pub use Rattle.decoding.specs.Common.{MAX_IMPORTS, MAX_ROUNDS, Listed, Placement as PlacementEntry, Round, Round as RoundEntry, Bytes, Number, Text, is_code, is_label, MAX_PROJECTS, MAX_QUOTA, MAX_STUDENTS, MAX_SUPERVISORS, RANKS, option_and_then, option_map, option_map_or, bytes_eq}
 pub use Rattle.decoding.specs.Inside.Decoded.{aim_in, aim_of, flag_in, import_in, import_of, kind_in, placement_in, project_in, round_in, student_in, supervisor_in, where_so}
 pub use Rattle.decoding.specs.Inside.Gathering.{after_cells, after_row, at_stage, choices_among, gathered, place_in, stage_in, stage_of, staged, stages, with_choice, with_new, with_next}
 pub use Rattle.decoding.specs.Inside.Whole.{are_few, are_offered, are_rounds, are_within, is_list, is_placement, is_whole}
@@ -13,23 +15,18 @@ pub use Rattle.rolls.proofs.Shaped.{IsShaped, fit_shaped, numbered_rise}
 pub use Rattle.rolls.specs.Fit.{ImportFits, IsFit, ListFits, PlacementFits, ProjectFits, StudentFits, SupervisorFits, are_aimed, are_numbered, is_distinct, only_last_open}
 pub use Rattle.rolls.specs.Roll.{Key, find, has, put, rises, same_key, take_out}
 pub use Rattle.rolls.specs.Rows.{AreRowsOf, aim_cells, choice_cells, choice_rows, import_cells, is_generous, list_rows, placement_cells, project_cells, round_cells, rows_in, rows_of_round, student_cells, supervisor_cells}
-pub use Rattle.rolls.specs.State.{State, aim_key, choices_in, empty, has_project, has_round, has_student, has_supervisor, import_key, is_closed, is_offered_by, is_placed_before, list_key, list_of, lists_of, placed_in_project, placed_with_supervisor, placement_key, project_key, project_of, quota_in, quota_with, round_key, round_of, student_key, supervisor_key, supervisor_of}
-pub use Rattle.rolls.specs.declared.TheConstants.{MAX_IMPORTS, MAX_ROUNDS}
+pub use Rattle.rolls.specs.State.{State, aim_key, choices_in, empty, has_project, has_round, has_student, has_supervisor, import_key, is_closed, is_offered_by, is_placed_before, list_key, lists_of, placed_in_project, placed_with_supervisor, placement_key, project_key, project_of, quota_in, quota_with, round_key, round_of, student_key, supervisor_key, supervisor_of}
 pub use Rattle.rolls.specs.declared.entries.Project.{Project as ProjectEntry}
 pub use Rattle.rolls.specs.declared.entries.Student.{Student as StudentEntry}
 pub use Rattle.rolls.specs.declared.entries.Supervisor.{Supervisor as SupervisorEntry}
 pub use Rattle.rolls.specs.declared.import.Import.{Import as ImportEntry}
-pub use Rattle.rolls.specs.declared.rounds.Listed.{Listed}
-pub use Rattle.rolls.specs.declared.rounds.Placement.{Placement as PlacementEntry}
-pub use Rattle.rolls.specs.declared.rounds.Round.{Round, Round as RoundEntry}
 pub use Rattle.rolls.specs.declared.rounds.RoundAim.{RoundAim as AimEntry}
 pub use Rattle.row_model.specs.Rows.{Cells, RowOf, begins, key_in, keyed, of_table, same_cell, same_table}
-pub use Rattle.row_model.specs.declared.cell.Cell.TheVariants.{Bytes, Number, Text}
 pub use Rattle.row_model.specs.declared.table.Table.{Table}
 pub use Rattle.row_model.specs.declared.table.Table.TheVariants.{Choice, Import, Placement, Project, RoundAim, Student, Supervisor}
-pub use Rattle.spa.specs.Text.{is_code, is_label}
-pub use Rattle.spa.specs.declared.TheConstants.{MAX_PROJECTS, MAX_QUOTA, MAX_STUDENTS, MAX_SUPERVISORS, RANKS}
-pub use Rattle.sqlite_keyed.proofs.ListLemmas.{IsPermutation-filter, IsPermutation-flat_map, IsPermutation-same, all-flat_map, all-slice_get, all_both, all_from_test, all_map, all_of, all_weaker, any_from_none, none_counted, none_from_any, test_from_all}
+pub use Rattle.sqlite_keyed.proofs.ListLemmas.{IsPermutation-filter, IsPermutation-flat_map, IsPermutation-same, all-flat_map, all_both, all_from_test, all_map, all_of, all_weaker, any_from_none, none_counted, none_from_any, test_from_all}
+pub use Rattle.std.proofs.Common.{Bool, Err, List, None, Ok, Option, Result, Some, [], ap, append-nil, append_assoc, arith, cond, count_by, drop, false, filter, get_or, is_some, length, map, not, refl, slice_get, subst, suc, sym, true, zero, ℕ, ◌++◌, ◌+◌, ◌-◌, ◌<◌, ◌∙◌, ◌∷◌, ◌≡◌, ◌≢◌, ◌≤◌, IsPermutation, IsTrue, flat_map, nat_le, ◌&&◌, ◌==◌, ◌||◌}
+pub use Rattle.std.specs.Prelude.{⊤}
 pub use Rattle.std.proofs.lemmas.Bool.{and_from, eq-eqb}
 pub use Rattle.std.proofs.lemmas.Bool.Decides.{nat_tests}
 pub use Rattle.std.proofs.lemmas.List.{length-append}
@@ -38,6 +35,3 @@ pub use Rattle.std.proofs.lemmas.List.Sorted.{All-permutation, IsPermutation-app
 pub use Rattle.std.proofs.lemmas.Option.{slice_get_read, slice_get_within}
 pub use Rattle.std.specs.Cmp.{first_so, second_so}
 pub use Rattle.std.specs.List.{AllByRecursion, list_all, list_any}
-pub use Rattle.std.specs.Option.{option_and_then, option_map, option_map_or}
-pub use Rattle.std.specs.Prelude.{IsPermutation, IsTrue, flat_map, nat_le, ⊤, ◌&&◌, ◌==◌, ◌||◌}
-pub use Rattle.std.specs.Str.{bytes_eq}

@@ -1,14 +1,7 @@
 -- What a row decodes to: an entry whose row it is, and which has the form. An entry of the form is what its row decodes to.
-use Rattle.std.proofs.Common.{◌≡◌, ℕ, ◌≤◌, ◌==◌, Bool, true, false, cond, List, [], ◌∷◌, Option, Some, None, refl, sym, ap, subst, ◌∙◌, arith}
-use Rattle.decoding.proofs.Common.{◌&&◌, IsTrue, first_so, second_so, option_map, bytes_eq, and_from, nat_tests, MAX_QUOTA, is_code, is_label, Text, Number, Bytes, Cells, Round, SupervisorFits, StudentFits, ImportFits, is_generous, supervisor_cells, project_cells, student_cells, round_cells, aim_cells, placement_cells, import_cells, same_bytes, where_so, flag_in, aim_of, kind_in, supervisor_in, project_in, student_in, round_in, aim_in, placement_in, import_in, import_of}
+use Rattle.decoding.proofs.Common.{◌&&◌, IsTrue, first_so, second_so, option_map, bytes_eq, and_from, nat_tests, MAX_QUOTA, is_code, is_label, Text, Number, Bytes, Cells, Round, SupervisorFits, StudentFits, ImportFits, is_generous, supervisor_cells, project_cells, student_cells, round_cells, aim_cells, placement_cells, import_cells, same_bytes, where_so, flag_in, aim_of, kind_in, supervisor_in, project_in, student_in, round_in, aim_in, placement_in, import_in, import_of, ◌≡◌, ℕ, ◌≤◌, Bool, true, false, cond, List, [], ◌∷◌, Option, Some, None, refl, sym, ap, subst, ◌∙◌, arith, SupervisorEntry as Supervisor, ProjectEntry as Project, StudentEntry as Student, PlacementEntry as Placement, AimEntry as RoundAim, ImportEntry as Import, ◌==◌}
 use Rattle.spa.specs.declared.aim.Aim.{Aim}
 use Rattle.spa.specs.declared.aim.Aim.TheVariants.{Greedy, Generous}
-use Rattle.rolls.specs.declared.entries.Supervisor.{Supervisor}
-use Rattle.rolls.specs.declared.entries.Project.{Project}
-use Rattle.rolls.specs.declared.entries.Student.{Student}
-use Rattle.rolls.specs.declared.rounds.Placement.{Placement}
-use Rattle.rolls.specs.declared.rounds.RoundAim.{RoundAim}
-use Rattle.rolls.specs.declared.import.Import.{Import}
 use Rattle.rolls.specs.declared.import.ImportKind.{ImportKind}
 use Rattle.rolls.specs.declared.import.ImportKind.TheVariants.{Supervisors, Projects, Students, Lists}
 use Rattle.rolls.specs.Kinds.{word_of}

@@ -1,13 +1,11 @@
 -- The finite tests of a draft are the fitness of an office. Entries are tested where they stand, and an entry that stands in a
 -- table is the one that is found at its key; a placed project is listed, so it is on the roll, and so is its supervisor.
-use Rattle.std.proofs.Common.{◌≡◌, ℕ, ◌+◌, ◌-◌, ◌≤◌, Bool, true, false, not, cond, List, [], ◌∷◌, length, count_by, Option, Some, None, is_some, slice_get, refl, sym, ap, subst, ◌∙◌, arith}
-use Rattle.decoding.proofs.Common.{◌&&◌, nat_le, IsTrue, first_so, second_so, list_all, AllByRecursion, option_map_or, bytes_eq, and_from, all_both, all_from_test, all_weaker, test_from_all, MAX_SUPERVISORS, MAX_PROJECTS, MAX_STUDENTS, RANKS, Supervisor, Project, Student, Import, Placement, MAX_ROUNDS, MAX_IMPORTS, SupervisorEntry, ProjectEntry, RoundEntry, Listed, PlacementEntry, Key, State, supervisor_key, project_key, round_key, supervisor_of, project_of, round_of, lists_of, has_supervisor, has_project, has_student, is_placed_before, is_closed, choices_in, quota_in, quota_with, is_offered_by, placed_in_project, placed_with_supervisor, IsFit, ProjectFits, ListFits, PlacementFits, are_aimed, are_numbered, only_last_open, is_distinct, bytes_self, same_bytes, found_key, holds_of_found, numbered_rise, each_found, is_whole, are_few, are_offered, are_rounds, is_list, is_placement, are_within}
+use Rattle.decoding.proofs.Common.{◌&&◌, nat_le, IsTrue, first_so, second_so, list_all, AllByRecursion, option_map_or, bytes_eq, and_from, all_both, all_from_test, all_weaker, test_from_all, MAX_SUPERVISORS, MAX_PROJECTS, MAX_STUDENTS, RANKS, Supervisor, Project, Student, Import, Placement, MAX_ROUNDS, MAX_IMPORTS, SupervisorEntry, ProjectEntry, RoundEntry, Listed, PlacementEntry, Key, State, supervisor_key, project_key, round_key, supervisor_of, project_of, round_of, lists_of, has_supervisor, has_project, has_student, is_placed_before, is_closed, choices_in, quota_in, quota_with, is_offered_by, placed_in_project, placed_with_supervisor, IsFit, ProjectFits, ListFits, PlacementFits, are_aimed, are_numbered, only_last_open, is_distinct, bytes_self, same_bytes, found_key, holds_of_found, numbered_rise, each_found, is_whole, are_few, are_offered, are_rounds, is_list, is_placement, are_within, ◌≡◌, ℕ, ◌+◌, ◌-◌, ◌≤◌, Bool, true, false, not, cond, List, [], ◌∷◌, length, count_by, Option, Some, None, is_some, slice_get, refl, sym, ap, subst, ◌∙◌, arith, listed}
 use Rattle.std.proofs.lemmas.List.Sums.{sum_by-cons}
 use Rattle.rolls.proofs.NoMoreThanFound.{few_placed}
 use Rattle.decoding.proofs.Tests.{at_most, not_true, within}
 use Rattle.decoding.proofs.Decoded.{ProjectForm}
 use Rattle.decoding.proofs.Taken.{IsDrafted, HasChoices, lists_drafted}
-use Rattle.change_laws.proofs.OnRolls.{listed}
 use Rattle.decoding.proofs.FitDrafted.{lists_found}
 
 -- ---- tests of each

@@ -1,9 +1,6 @@
 -- A test of all entries, made from the first one on.
-use Rattle.std.proofs.Common.{◌≡◌, ℕ, suc, ◌+◌, ◌<◌, ◌≤◌, Bool, true, false, List, ◌∷◌, length, drop, get_or, Some, slice_get, refl, sym, ap, subst, ◌∙◌, arith}
-use Rattle.decoding.proofs.Common.{◌&&◌, nat_le, list_all, nat_tests, slice_get_read, State, supervisor_key, project_key, has_supervisor, placed_in_project, placed_with_supervisor, rises, MAX_SUPERVISORS, MAX_PROJECTS, MAX_STUDENTS, MAX_ROUNDS, MAX_IMPORTS, first_so, second_so, are_few, are_offered, all_from_test}
+use Rattle.decoding.proofs.Common.{◌&&◌, nat_le, list_all, nat_tests, slice_get_read, State, supervisor_key, project_key, has_supervisor, placed_in_project, placed_with_supervisor, rises, MAX_SUPERVISORS, MAX_PROJECTS, MAX_STUDENTS, MAX_ROUNDS, MAX_IMPORTS, first_so, second_so, are_few, are_offered, all_from_test, ◌≡◌, ℕ, suc, ◌+◌, ◌<◌, ◌≤◌, Bool, true, false, List, ◌∷◌, length, drop, get_or, Some, slice_get, refl, sym, ap, subst, ◌∙◌, arith, SupervisorEntry as Supervisor, ProjectEntry as Project}
 use Rattle.std.proofs.Math.Seq.{drop-cons}
-use Rattle.rolls.specs.declared.entries.Supervisor.{Supervisor}
-use Rattle.rolls.specs.declared.entries.Project.{Project}
 use Rattle.rolls.specs.Counted.{AreRolls}
 use Rattle.decoding.proofs.Tests.{at_most}
 

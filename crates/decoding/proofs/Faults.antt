@@ -1,5 +1,5 @@
 -- A fault that is handed on.
-use Rattle.std.proofs.Common.{◌≡◌, Result, Ok, Err, sym, ap}
+use Rattle.decoding.proofs.Common.{◌≡◌, Result, Ok, Err, sym, ap}
 use Rattle.std.specs.Result.{IsErrAnd}
 use Rattle.decoding.specs.declared.fault.RowsFault.{RowsFault}
 use Rattle.decoding.specs.declared.fault.RowsFault.TheVariants.{Memory, Unfit}

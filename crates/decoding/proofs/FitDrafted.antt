@@ -1,8 +1,6 @@
 -- The entries of a fit office are each of their forms; what a fit office lists is on its rolls.
-use Rattle.std.proofs.Common.{◌≡◌, ◌-◌, Option, [], refl, sym, ap, subst, ◌∙◌}
-use Rattle.decoding.proofs.Common.{AllByRecursion, option_map_or, and_from, all_of, all_weaker, Supervisor, Project, Student, Import, RoundAim, Placement, SupervisorEntry, RoundEntry, rises, State, supervisor_key, round_key, list_key, lists_of, IsFit, SupervisorFits, ProjectFits, PlacementFits, fit_shaped, StandsIn, each_found}
+use Rattle.decoding.proofs.Common.{AllByRecursion, option_map_or, and_from, all_of, all_weaker, Supervisor, Project, Student, Import, RoundAim, Placement, SupervisorEntry, RoundEntry, rises, State, supervisor_key, round_key, list_key, lists_of, IsFit, SupervisorFits, ProjectFits, PlacementFits, fit_shaped, StandsIn, each_found, ◌≡◌, ◌-◌, Option, [], refl, sym, ap, subst, ◌∙◌, known_code, listed, project_code, student_code}
 use Rattle.row_model.specs.declared.table.Table.TheVariants.{Round}
-use Rattle.change_laws.proofs.OnRolls.{known_code, listed, project_code, student_code}
 use Rattle.decoding.proofs.Decoded.{ProjectForm, PlacementForm, AimForm}
 use Rattle.decoding.proofs.Taken.{HasChoices, IsDrafted, RoundForm}
 

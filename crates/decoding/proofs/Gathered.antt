@@ -1,6 +1,5 @@
 -- What is gathered from rows has these rows: each that is taken in comes next to those that are held.
-use Rattle.std.proofs.Common.{◌≡◌, ℕ, suc, ◌+◌, Bool, true, false, cond, List, [], ◌∷◌, ◌++◌, map, filter, Option, Some, None, refl, sym, ap, subst, ◌∙◌, arith, append-nil}
-use Rattle.decoding.proofs.Common.{IsPermutation, option_and_then, IsPermutation-refl, IsPermutation-sym, IsPermutation-trans, IsPermutation-map, IsPermutation-middle, IsPermutation-append_right, IsPermutation-filter, IsPermutation-same, Table, Supervisor, Cells, RowOf, of_table, same_table, AreRowsOf, rows_in, State, empty, after_row, gathered, at_stage, stages, staged}
+use Rattle.decoding.proofs.Common.{IsPermutation, option_and_then, IsPermutation-refl, IsPermutation-sym, IsPermutation-trans, IsPermutation-map, IsPermutation-middle, IsPermutation-append_right, IsPermutation-filter, IsPermutation-same, Table, Supervisor, Cells, RowOf, of_table, same_table, AreRowsOf, rows_in, State, empty, after_row, gathered, at_stage, stages, staged, ◌≡◌, ℕ, suc, ◌+◌, Bool, true, false, cond, List, [], ◌∷◌, ◌++◌, map, filter, Option, Some, None, refl, sym, ap, subst, ◌∙◌, arith, append-nil}
 use Rattle.decoding.proofs.Stages.{same_staged}
 use Rattle.decoding.proofs.Taken.{AreDrafted, IsDrafted, IsTaken, empty_drafted, taken}
 

@@ -1,6 +1,5 @@
 -- Rounds are read one after another: whether only the last is open, from whether the one before is.
-use Rattle.std.proofs.Common.{◌≡◌, Bool, true, false, not, List, [], ◌∷◌, refl, ap}
-use Rattle.decoding.proofs.Common.{◌&&◌, Round, only_last_open}
+use Rattle.decoding.proofs.Common.{◌&&◌, Round, only_last_open, ◌≡◌, Bool, true, false, not, List, [], ◌∷◌, refl, ap}
 
 -- the rounds after one that is open, or is not
 abbrev pub goes_on : Bool → List Round → Bool

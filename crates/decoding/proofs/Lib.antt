@@ -4,7 +4,6 @@ pub mod Decoded
 pub mod Stages
 pub mod Taken
 pub mod Gathered
-pub mod Choices
 pub mod FitDrafted
 pub mod Takes
 pub mod DraftIsFit

@@ -1,6 +1,5 @@
 -- Rows taken stage by stage are the same rows in another order, in which no row comes before one of an earlier stage.
-use Rattle.std.proofs.Common.{◌≡◌, ℕ, zero, suc, ◌+◌, ◌<◌, ◌≤◌, ◌==◌, Bool, true, false, cond, List, [], ◌∷◌, ◌++◌, refl, sym, ap, arith, subst}
-use Rattle.decoding.proofs.Common.{nat_le, ⊤, IsPermutation, AllByRecursion, nat_tests, filter_passes, recursion_from_All, IsPermutation-refl, IsPermutation-sym, IsPermutation-trans, IsPermutation-cons, IsPermutation-middle, IsPermutation-append_right, IsPermutation-same, all_weaker, RANKS, Number, Table, Choice, Cells, RowOf, place_in, stage_in, stage_of, at_stage, stages, staged}
+use Rattle.decoding.proofs.Common.{nat_le, ⊤, IsPermutation, AllByRecursion, nat_tests, filter_passes, recursion_from_All, IsPermutation-refl, IsPermutation-sym, IsPermutation-trans, IsPermutation-cons, IsPermutation-middle, IsPermutation-append_right, IsPermutation-same, all_weaker, RANKS, Number, Table, Choice, Cells, RowOf, place_in, stage_in, stage_of, at_stage, stages, staged, ◌≡◌, ℕ, zero, suc, ◌+◌, ◌<◌, ◌≤◌, Bool, true, false, cond, List, [], ◌∷◌, ◌++◌, refl, sym, ap, arith, subst, ◌==◌}
 
 -- ---- the same rows
 

@@ -1,7 +1,6 @@
 -- One row is taken in: of its table the rows that are held then are it and those that were held, in whatever order, and of each other
 -- table they stay. Entries stay in the order of their keys, each of its form.
-use Rattle.std.proofs.Common.{◌≡◌, ℕ, ◌+◌, ◌≤◌, ◌==◌, Bool, true, false, cond, suc, List, [], ◌∷◌, ◌++◌, map, length, Option, Some, None, is_some, refl, sym, ap, subst, ◌∙◌, arith, append_assoc}
-use Rattle.decoding.proofs.Common.{◌&&◌, flat_map, IsPermutation, AllByRecursion, option_map_or, nat_tests, length-append, IsPermutation-refl, IsPermutation-sym, IsPermutation-trans, IsPermutation-cons, IsPermutation-map, IsPermutation-middle, IsPermutation-append_left, IsPermutation-same, IsPermutation-flat_map, is_code, Text, Number, Table, Supervisor, Project, Student, Import, RoundAim, Choice, Placement, Cells, of_table, SupervisorEntry, ProjectEntry, StudentEntry, RoundEntry, Listed, PlacementEntry, AimEntry, ImportEntry, Key, find, has, put, take_out, rises, State, empty, supervisor_key, project_key, student_key, round_key, aim_key, list_key, placement_key, import_key, round_of, lists_of, SupervisorFits, StudentFits, ImportFits, supervisor_cells, project_cells, student_cells, round_cells, aim_cells, placement_cells, import_cells, choice_cells, choice_rows, list_rows, rows_of_round, rows_in, all-put, found_key, holds_of_found, rises-put, IsShaped, added_beside, found_beside, none_taken, put_beside, supervisor_in, project_in, student_in, round_in, aim_in, placement_in, import_in, after_cells, choices_among, with_choice, with_new, with_next}
+use Rattle.decoding.proofs.Common.{◌&&◌, flat_map, IsPermutation, AllByRecursion, option_map_or, nat_tests, length-append, IsPermutation-refl, IsPermutation-sym, IsPermutation-trans, IsPermutation-cons, IsPermutation-map, IsPermutation-middle, IsPermutation-append_left, IsPermutation-same, IsPermutation-flat_map, is_code, Text, Number, Table, Supervisor, Project, Student, Import, RoundAim, Choice, Placement, Cells, of_table, SupervisorEntry, ProjectEntry, StudentEntry, RoundEntry, Listed, PlacementEntry, AimEntry, ImportEntry, Key, find, has, put, take_out, rises, State, empty, supervisor_key, project_key, student_key, round_key, aim_key, list_key, placement_key, import_key, round_of, lists_of, SupervisorFits, StudentFits, ImportFits, supervisor_cells, project_cells, student_cells, round_cells, aim_cells, placement_cells, import_cells, choice_cells, choice_rows, list_rows, rows_of_round, rows_in, all-put, found_key, holds_of_found, rises-put, IsShaped, added_beside, found_beside, none_taken, put_beside, supervisor_in, project_in, student_in, round_in, aim_in, placement_in, import_in, after_cells, choices_among, with_choice, with_new, with_next, ◌≡◌, ℕ, ◌+◌, ◌≤◌, Bool, true, false, cond, suc, List, [], ◌∷◌, ◌++◌, map, length, Option, Some, None, is_some, refl, sym, ap, subst, ◌∙◌, arith, append_assoc, ◌==◌}
 use Rattle.row_model.specs.declared.table.Table.TheVariants.{Round}
 use Rattle.change_laws.proofs.Same.{from_same, to_same}
 use Rattle.decoding.proofs.Tests.{has_form}

@@ -1,8 +1,7 @@
 -- A row of a fit office is taken in when it comes in order. What is held and what is to come are together the rows of the office, and these
 -- have different keys: so the row decodes to an entry of a new key. A choice is the next of its list, since those that come later are of no
 -- earlier stage.
-use Rattle.std.proofs.Common.{◌≡◌, ℕ, zero, suc, ◌+◌, ◌<◌, ◌≤◌, ◌==◌, Bool, true, false, cond, List, [], ◌∷◌, ◌++◌, map, filter, length, drop, Option, Some, None, is_some, slice_get, refl, sym, ap, subst, ◌∙◌, arith}
-use Rattle.decoding.proofs.Common.{◌&&◌, ◌||◌, nat_le, flat_map, IsPermutation, AllByRecursion, list_any, option_map_or, option_and_then, bytes_eq, and_from, eq-eqb, nat_tests, length-append, All-from_recursion, recursion_from_All, filter-append, All-permutation, IsPermutation-sym, IsPermutation-trans, length_permutation, list_any-IsPermutation, slice_get_within, IsPermutation-filter, all-flat_map, all_map, all_weaker, any_from_none, none_counted, none_from_any, RANKS, is_code, Text, Number, Table, Supervisor, Project, Student, Import, RoundAim, Choice, Placement, Cells, RowOf, begins, key_in, keyed, of_table, same_cell, same_table, RoundEntry, Listed, IsFit, SupervisorFits, StudentFits, ImportFits, Key, find, has, put, same_key, AreRowsOf, supervisor_cells, project_cells, student_cells, round_cells, aim_cells, placement_cells, import_cells, choice_cells, choice_rows, list_rows, rows_of_round, rows_in, State, empty, supervisor_key, project_key, student_key, round_key, aim_key, list_key, placement_key, import_key, has_round, round_of, choices_in, bytes_self, fit_shaped, StandsIn, each_found, begins_both, begins_self, code_test, number_test, where_so, supervisor_in, project_in, student_in, round_in, aim_in, placement_in, import_in, after_cells, choices_among, gathered, place_in, stage_in, staged, with_choice, with_new, with_next}
+use Rattle.decoding.proofs.Common.{◌&&◌, ◌||◌, nat_le, flat_map, IsPermutation, AllByRecursion, list_any, option_map_or, option_and_then, bytes_eq, and_from, eq-eqb, nat_tests, length-append, All-from_recursion, recursion_from_All, filter-append, All-permutation, IsPermutation-sym, IsPermutation-trans, length_permutation, list_any-IsPermutation, slice_get_within, IsPermutation-filter, all-flat_map, all_map, all_weaker, any_from_none, none_counted, none_from_any, RANKS, is_code, Text, Number, Table, Supervisor, Project, Student, Import, RoundAim, Choice, Placement, Cells, RowOf, begins, key_in, keyed, of_table, same_cell, same_table, RoundEntry, Listed, IsFit, SupervisorFits, StudentFits, ImportFits, Key, find, has, put, same_key, AreRowsOf, supervisor_cells, project_cells, student_cells, round_cells, aim_cells, placement_cells, import_cells, choice_cells, choice_rows, list_rows, rows_of_round, rows_in, State, empty, supervisor_key, project_key, student_key, round_key, aim_key, list_key, placement_key, import_key, has_round, round_of, choices_in, bytes_self, fit_shaped, StandsIn, each_found, begins_both, begins_self, code_test, number_test, where_so, supervisor_in, project_in, student_in, round_in, aim_in, placement_in, import_in, after_cells, choices_among, gathered, place_in, stage_in, staged, with_choice, with_new, with_next, ◌≡◌, ℕ, zero, suc, ◌+◌, ◌<◌, ◌≤◌, Bool, true, false, cond, List, [], ◌∷◌, ◌++◌, map, filter, length, drop, Option, Some, None, is_some, slice_get, refl, sym, ap, subst, ◌∙◌, arith, IsListed, listed, project_code, student_code, ◌==◌, first_so, IsShaped, and_true}
 use Rattle.std.proofs.lemmas.List.Folds.{list_any-append}
 use Rattle.row_model.specs.declared.table.Table.TheVariants.{Round}
 use Rattle.row_model.proofs.Tables.{same_table_is}
@@ -14,9 +13,45 @@ use Rattle.decoding.proofs.Decoded.{ProjectForm, PlacementForm, AimForm, supervi
 use Rattle.decoding.proofs.Taken.{AreOf, IsDrafted, RoundForm, drafted_shaped, empty_drafted, taken}
 use Rattle.decoding.proofs.Gathered.{gathered_drafted, gathered_rows, moved, staged_rows, with_held}
 use Rattle.decoding.proofs.Stages.{AreInStages, IsNoSooner, in_stages}
-use Rattle.decoding.proofs.Choices.{any_choice}
-use Rattle.change_laws.proofs.OnRolls.{IsListed, listed, project_code, student_code}
 use Rattle.decoding.proofs.FitDrafted.{fit_drafted, lists_found}
+use Rattle.std.proofs.lemmas.Map.Views.{any-filter_same}
+use Rattle.change_laws.proofs.Choices.{rows_are}
+use Rattle.change_laws.proofs.Lists.{head}
+
+or_false : (b : Bool) → (b || false) ≡ b
+or_false true = refl
+or_false false = refl
+
+module _ (n : ℕ) (s c : List ℕ) where
+  -- whether a row is that of a choice at a place
+  abbrev is_at : ℕ → Cells → Bool
+  is_at p row = begins (choice_cells n s p c) row
+
+  its_place : (p m : ℕ) (x : List ℕ) → is_at p (choice_cells n s m x) ≡ ((p == m) && bytes_eq c x)
+  its_place p m x = λ i. eq-eqb n n refl i && (bytes_self s i && ((p == m) && and_true (bytes_eq c x) i))
+
+  other_place : (p m : ℕ) (x : List ℕ) → (p ≡ m → ⊥) → is_at p (choice_cells n s m x) ≡ false
+  other_place p m x apart = let other : (p == m) ≡ false = grind (arith, nat_tests, apart) in its_place p m x ∙ ap (λ b. b && bytes_eq c x) other
+
+  none_before : (p m : ℕ) (cs : List (List ℕ)) → p < m → list_any (is_at p) (choice_rows n s m cs) ≡ false
+  none_before p m [] l = refl
+  none_before p m (x ∷ cs) l = λ i. other_place p m x (λ e. omega (arith, l, e)) i || none_before p (suc m) cs (omega (arith, l)) i
+
+  any_at : (m : ℕ) (cs : List (List ℕ)) (j : ℕ) → list_any (is_at (j + m)) (choice_rows n s m cs) ≡ option_map_or (bytes_eq c) (slice_get cs j) false
+  any_at m [] zero = refl
+  any_at m [] (suc j) = refl
+  any_at m (x ∷ cs) zero =
+      (λ i. (its_place (0 + m) m x ∙ ap (λ b. b && bytes_eq c x) (eq-eqb (0 + m) m (omega arith))) i || none_before (0 + m) (suc m) cs (omega arith) i) ∙ or_false (bytes_eq c x)
+  any_at m (x ∷ cs) (suc j) =
+      let next : suc j + m ≡ j + suc m = omega arith in
+      (λ i. other_place (suc j + m) m x (λ e. omega (arith, e)) i || list_any (is_at (next i)) (choice_rows n s (suc m) cs)) ∙ any_at (suc m) cs j
+
+  -- an office has the row of a choice at a place where the student lists it there
+  pub any_choice : (o : State) → IsShaped o → (j : ℕ) → list_any (is_at (suc j)) (flat_map rows_of_round o.rounds) ≡ option_map_or (bytes_eq c) (slice_get (choices_in o n s) j) false
+  any_choice o shaped j =
+      let next : suc j ≡ j + 1 = omega arith in
+      sym (any-filter_same (is_at (suc j)) (λ row. begins (head n s) row) true (λ row h. first_so _ _ (sym (begins_both (head n s) (Number (suc j) ∷ Text c ∷ []) row) ∙ h)) (flat_map rows_of_round o.rounds))
+      ∙ (λ i. list_any (is_at (next i)) (rows_are n s o shaped i)) ∙ any_at 1 (choices_in o n s) j
 
 -- ---- one of many rows
 

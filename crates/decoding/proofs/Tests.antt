@@ -1,6 +1,5 @@
 -- Tests, and what they say.
-use Rattle.std.proofs.Common.{◌≡◌, ℕ, ◌≤◌, Bool, true, false, not, Some, refl, arith}
-use Rattle.decoding.proofs.Common.{nat_le, nat_tests, where_so}
+use Rattle.decoding.proofs.Common.{nat_le, nat_tests, where_so, ◌≡◌, ℕ, ◌≤◌, Bool, true, false, not, Some, refl, arith}
 
 pub within : (n limit : ℕ) → n ≤ limit → nat_le n limit ≡ true
 within n limit h = grind (arith, nat_tests)

@@ -1,6 +1,6 @@
 -- The office that the parts of a draft stand for.
+use Rattle.decoding.specs.Common.{State}
 use Rattle.decoding.specs.declared.draft.PartialOffice.{PartialOffice}
-use Rattle.rolls.specs.State.{State}
 
 -- what a draft holds
 abbrev pub drafted : PartialOffice → State

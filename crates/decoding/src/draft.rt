@@ -1,8 +1,7 @@
 //! What rows hold.
 
 ghost use Rattle.std.specs.Prelude.{◌≡◌, ◌+◌, ◌==◌, ◌++◌, ◌∷◌, [], true, false, length, IfOk, OnOk, Some, None, Err};
-ghost use Rattle.rolls.specs.Roll.{has, put};
-ghost use Rattle.rolls.specs.State.{empty, round_of};
+ghost use Rattle.decoding.specs.Common.{has, put, empty, round_of};
 ghost use Rattle.decoding.specs.View.{drafted};
 ghost use Rattle.decoding.specs.Inside.Gathering.{after_cells, after_row, choices_among, with_choice, with_next};
 

@@ -1,8 +1,7 @@
 //! Rows are taken in, stage by stage.
 
 ghost use Rattle.std.specs.Prelude.{◌≡◌, IfOk, OnOk, Some, None, Err};
-ghost use Rattle.rolls.specs.State.{State, empty};
-ghost use Rattle.rolls.specs.Fit.{IsFit};
+ghost use Rattle.decoding.specs.Common.{State, empty, IsFit};
 ghost use Rattle.rolls.specs.Rows.{AreRowsOf};
 ghost use Rattle.decoding.specs.View.{drafted};
 ghost use Rattle.decoding.specs.Inside.Gathering.{place_in, stage_of, at_stage, staged, gathered};

@@ -1,9 +1,7 @@
 //! Whether quotas are kept. All placements are counted once.
 
 ghost use Rattle.std.specs.Prelude.{◌≡◌, ◌≤◌, nat_le, IsTrue, None, length};
-ghost use Rattle.std.specs.List.{list_all};
-ghost use Rattle.spa.specs.declared.TheConstants.{MAX_PROJECTS, MAX_SUPERVISORS};
-ghost use Rattle.rolls.specs.State.{placed_in_project, placed_with_supervisor};
+ghost use Rattle.decoding.specs.Common.{list_all, MAX_PROJECTS, MAX_SUPERVISORS, placed_in_project, placed_with_supervisor};
 ghost use Rattle.rolls.specs.Counted.{AreCounted};
 ghost use Rattle.decoding.specs.View.{drafted};
 ghost use Rattle.decoding.specs.Inside.Whole.{are_few, are_offered, are_within};

@@ -1,11 +1,7 @@
 //! Whether what was taken in goes together.
 
 ghost use Rattle.std.specs.Prelude.{◌≡◌, ◌-◌, IfErr, OnOk, false, slice_get, true};
-ghost use Rattle.std.specs.List.{list_all, list_any};
-ghost use Rattle.std.specs.Option.{option_map_or};
-ghost use Rattle.std.specs.Str.{bytes_eq};
-ghost use Rattle.rolls.specs.State.{has_supervisor, has_project, is_placed_before};
-ghost use Rattle.rolls.specs.Fit.{are_aimed, are_numbered, only_last_open, is_distinct};
+ghost use Rattle.decoding.specs.Common.{list_all, list_any, option_map_or, bytes_eq, has_supervisor, has_project, is_placed_before, are_aimed, are_numbered, only_last_open, is_distinct};
 ghost use Rattle.decoding.specs.View.{drafted};
 ghost use Rattle.decoding.specs.Inside.Gathering.{choices_among};
 ghost use Rattle.decoding.specs.Inside.Whole.{is_whole, are_few, are_offered, are_rounds, is_list, is_placement};

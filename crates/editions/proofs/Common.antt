@@ -15,10 +15,9 @@ pub use Rattle.row_model.specs.declared.table.Table.{Table}
 pub use Rattle.row_model.specs.declared.table.Table.TheVariants.{Choice, Edition as EditionTable, Round, RoundAim}
 pub use Rattle.spa.specs.declared.aim.Aim.TheVariants.{Generous, Greedy}
 pub use Rattle.sqlite_keyed.proofs.ListLemmas.{IsPermutation-same, all-filter, all-map, all_both, all_unmap, all_weaker, filter-filter, filter-map, filter_none, map-map}
+pub use Rattle.std.proofs.Common.{Bool, List, None, Option, Some, [], ap, append-nil, cond, drop, false, filter, map, not, refl, subst, sym, true, ◌++◌, ◌∙◌, ◌∷◌, ◌≡◌, IsPermutation, ◌&&◌, ◌==◌, ◌||◌}
 pub use Rattle.std.proofs.lemmas.Bool.{and_from, eqb-true, or_left, or_right}
-pub use Rattle.std.proofs.lemmas.Grind.{common_steps}
 pub use Rattle.std.proofs.lemmas.List.Elements.{All-from_recursion, filter-append, filter_passes, recursion_from_All}
 pub use Rattle.std.proofs.lemmas.List.Sorted.{All-permutation, IsPermutation-map, IsPermutation-middle, IsPermutation-refl, IsPermutation-trans}
 pub use Rattle.std.specs.List.{AllByRecursion, list_any}
 pub use Rattle.std.specs.Option.{option_map_or}
-pub use Rattle.std.specs.Prelude.{IsPermutation, ◌&&◌, ◌==◌, ◌||◌}

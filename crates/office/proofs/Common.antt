@@ -1,33 +1,31 @@
 -- The names that most proofs here cite, passed on from one place. Declares nothing.
 pub use Rattle.change_laws.specs.Changes.{changes_of_rows, import_changes, kept_placements}
+pub use Rattle.office.specs.Common.{Imports, IsClosed, IsDone, IsFit, AllByRecursion, list_any}
 pub use Rattle.office.specs.View.{state_of}
 pub use Rattle.rolls.proofs.Found.{found_key}
 pub use Rattle.rolls.proofs.NoRefusal.{allowed}
-pub use Rattle.rolls.specs.Answers.{Imports, IsClosed, IsDone}
-pub use Rattle.rolls.specs.Fit.{IsFit}
 pub use Rattle.rolls.specs.Importing.{after_rows, at_record, import_refusal, or_else, rows_refusal, with_import}
 pub use Rattle.rolls.specs.Instances.{instance_left, round_instance}
 pub use Rattle.rolls.specs.Making.{changes_of, list_changes, list_part, opening_changes, put_or_added, reopening_changes}
 pub use Rattle.rolls.specs.Refusing.{choice_tests, first, import_tests, list_tests, plain_refusal, reopening_tests}
 pub use Rattle.rolls.specs.Roll.{Key, find, of_code, put, put_all, rises, take_out}
 pub use Rattle.rolls.specs.Rows.{Transforms, import_cells, project_cells, student_cells, supervisor_cells}
-pub use Rattle.rolls.specs.State.{State, aim_key, has_import, has_list, has_project, has_student, has_supervisor, import_key, import_of, is_offered_by, kept_rows, last_round, list_key, lists_of, placed_at_rank, placed_in_round, placement_key, project_key, project_of, round_is_open, round_key, round_of, student_key, supervisor_key, supervisor_of}
+pub use Rattle.rolls.specs.State.{State, aim_key, has_import, has_list, has_project, has_student, has_supervisor, import_key, import_of, is_offered_by, kept_rows, last_round, list_key, lists_of, placed_at_rank, placed_in_round, placement_key, project_key, round_is_open, round_key, round_of, student_key, supervisor_key}
 pub use Rattle.rolls.specs.Stepping.{after_plain, by_rank, plain_reply, with_last}
 pub use Rattle.rolls.specs.declared.TheConstants.{MAX_IMPORTS}
 pub use Rattle.rolls.specs.declared.import.Import.{Import}
 pub use Rattle.rolls.specs.declared.refusal.Refusal.{Refusal}
 pub use Rattle.rolls.specs.declared.request.Done.{Done}
 pub use Rattle.rolls.specs.declared.request.Plain.{Plain}
-pub use Rattle.rolls.specs.declared.request.Plain.TheVariants.{DropList, GetProject, GetRound, GetStudent, GetSupervisor, OpenRound, PutList, PutProject, PutStudent, PutSupervisor, ReopenRound}
+pub use Rattle.rolls.specs.declared.request.Plain.TheVariants.{DropList, OpenRound, PutList, PutProject, PutStudent, PutSupervisor, ReopenRound}
 pub use Rattle.rolls.specs.declared.rounds.Listed.{Listed}
 pub use Rattle.rolls.specs.declared.rounds.Placement.{Placement}
 pub use Rattle.rolls.specs.declared.rounds.Round.{Round}
 pub use Rattle.row_model.specs.declared.row.Change.{Change}
 pub use Rattle.row_model.specs.declared.row.Change.TheVariants.{Add, Remove}
 pub use Rattle.row_model.specs.declared.table.Table.TheVariants.{Import as ImportTable, Project as ProjectTable, Student as StudentTable, Supervisor as SupervisorTable}
-pub use Rattle.spa.specs.declared.TheConstants.{MAX_QUOTA, MAX_STUDENTS, RANKS}
-pub use Rattle.std.proofs.lemmas.List.{append-nil, append_assoc, drop_more, take_more}
-pub use Rattle.std.specs.List.{AllByRecursion, list_any}
+pub use Rattle.spa.specs.declared.TheConstants.{MAX_STUDENTS, RANKS}
+pub use Rattle.std.proofs.Common.{Bor, IsTrue, None, Option, Some, [], ap, arith, drop, inl, inr, refl, rules, slice_index, subst, suc, sym, take, zero, ℕ, ◌++◌, ◌<◌, ◌∙◌, ◌∷◌, ◌≡◌, ◌≤◌, Bool, IfOk, List, Ok, count_by, false, if◌then◌else◌, is_some, length, nat_le, not, option_copied, true, ◌&&◌, ◌+◌, ◌==◌}
+pub use Rattle.std.proofs.lemmas.List.{append_assoc, drop_more, take_more}
 pub use Rattle.std.specs.Option.{option_map, option_map_or, unwrap_or}
-pub use Rattle.std.specs.Prelude.{Bool, IfOk, List, Ok, count_by, false, if◌then◌else◌, is_some, length, nat_le, not, option_copied, true, ◌&&◌, ◌+◌, ◌==◌}
 pub use Rattle.std.specs.Str.{bytes_eq}

@@ -1,16 +1,30 @@
 -- An import makes its rows one after another. While it is under way, what is left decides as the whole did from the office
 -- before; at the end nothing is left, so all rows were made.
-use Rattle.std.proofs.Common.{◌≡◌, ℕ, suc, ◌+◌, List, [], ◌∷◌, ◌++◌, length, Option, Some, None, refl, sym, ap, subst, ◌∙◌, arith}
-use Rattle.office.proofs.Common.{append_assoc, append-nil, ◌&&◌, not, nat_le, Bool, true, false, is_some, Ok, if◌then◌else◌, option_map, unwrap_or, MAX_IMPORTS, Import, ImportTable, Add, Refusal, Plain, Done, Change, of_code, find, rises, State, import_key, import_of, has_import, kept_rows, Transforms, import_cells, first, plain_refusal, import_tests, after_plain, or_else, at_record, rows_refusal, after_rows, import_refusal, with_import, IsDone, Imports, allowed, put_or_added, changes_of, changes_of_rows, import_changes}
+use Rattle.office.proofs.Common.{append_assoc, ◌&&◌, not, nat_le, Bool, true, false, is_some, Ok, if◌then◌else◌, option_map, unwrap_or, MAX_IMPORTS, Import, ImportTable, Add, Refusal, Plain, Done, Change, of_code, find, rises, State, import_key, import_of, has_import, kept_rows, Transforms, import_cells, first, plain_refusal, import_tests, after_plain, or_else, at_record, rows_refusal, after_rows, import_refusal, with_import, IsDone, Imports, allowed, put_or_added, changes_of, changes_of_rows, import_changes, ◌≡◌, ℕ, suc, [], ◌∷◌, ◌++◌, Option, Some, None, refl, sym, ap, subst, ◌∙◌, arith, ◌+◌, List, length, plain_reply}
 use Rattle.rolls.specs.declared.import.ImportKind.{ImportKind}
-use Rattle.rolls.specs.declared.request.Reply.TheVariants as reply
-use Rattle.rolls.specs.declared.refusal.Refusal.TheVariants as no
-use Rattle.rolls.specs.RefusalInfo.{number_of}
 use Rattle.change_laws.proofs.ImportChanges.{keep_none}
 use Rattle.change_laws.proofs.Changes.{transforms_follow}
 use Rattle.change_laws.proofs.OneRow.{transforms_import}
 use Rattle.office.specs.Inside.Importing.{AreMade}
-use Rattle.office.proofs.ReadAnswers.{none_transforms}
+use Rattle.std.proofs.lemmas.List.Sorted.{IsPermutation-refl}
+use Rattle.rolls.specs.declared.request.Reply.TheVariants as reply
+
+-- no changes transform no rows
+pub none_transforms : (o : State) → Transforms [] o o
+none_transforms o = record { fresh = tt; rows = λ table. IsPermutation-refl _ }
+
+-- the step of a read
+pub read_done : (q : Plain) (o : State) (done : Done) → plain_refusal o q ≡ None → o ≡ after_plain q o → Some done.reply ≡ plain_reply q o → done.changes.items ≡ [] → IsDone q o o done
+read_done q o done none after answer unchanged = record {
+  allowed = none;
+  after = after;
+  reply = answer;
+  changes = subst (λ cs. Transforms cs o o) (sym unchanged) (none_transforms o);
+}
+
+-- the same, where the request is named in two ways
+pub read_named : (p q : Plain) → p ≡ q → (o : State) (done : Done) → plain_refusal o q ≡ None → o ≡ after_plain q o → Some done.reply ≡ plain_reply q o → done.changes.items ≡ [] → IsDone p o o done
+read_named p q same o done none after answer unchanged = subst (λ (p : Plain). IsDone p o o done) (sym same) (read_done q o done none after answer unchanged)
 
 -- an import's row is added
 abbrev pub import_added : Import → Change
@@ -24,23 +38,9 @@ pub record IsUnderWay (rows rest : List Plain) (old now : State) (changes : List
   pub exact : changes_of_rows rows old ≡ changes ++ changes_of_rows rest now
   pub counted : made + length rest ≡ length rows
 
--- nothing is made yet
-pub none_made : (rows all : List Plain) (old : State) → all ≡ rows → IsUnderWay rows all old old [] 0
-none_made rows all old is = record {
-  refusal = ap (rows_refusal 1 old) (sym is);
-  after = ap (λ (ps : List Plain). after_rows ps old) (sym is);
-  transforms = none_transforms old;
-  exact = ap (λ (ps : List Plain). changes_of_rows ps old) (sym is);
-  counted = let same = ap length is in omega (arith, same);
-}
-
 module _ (rows left rest : List Plain) (p : Plain) (old now : State) (changes : List Change) (made : ℕ) (next : left ≡ p ∷ rest) (way : IsUnderWay rows left old now changes made) where
   private_refusal : rows_refusal 1 old rows ≡ or_else (at_record (made + 1) (plain_refusal now p)) (rows_refusal (suc (made + 1)) (after_plain p now) rest)
   private_refusal = way.refusal ∙ ap (rows_refusal (made + 1) now) next
-
-  -- the next row is refused, and so is the import, with the row's number
-  pub next_refused : (r : Refusal) → plain_refusal now p ≡ Some r → rows_refusal 1 old rows ≡ Some (no.Row (made + 1) (number_of r))
-  next_refused r is = private_refusal ∙ ap (λ (x : Option Refusal). or_else (at_record (made + 1) x) (rows_refusal (suc (made + 1)) (after_plain p now) rest)) is
 
   -- the next row is made
   pub next_made : (new : State) (done : Done) (more : List Change) → IsDone p now new done → done.changes.items ≡ changes_of p now → more ≡ changes ++ done.changes.items
@@ -62,11 +62,6 @@ module _ (rows left rest : List Plain) (p : Plain) (old now : State) (changes : 
     counted = let one = ap length next in omega (arith, one, way.counted);
   }
 
--- nothing is left
-pub all_made : (rows rest : List Plain) (old now : State) (changes : List Change) (made : ℕ) → length rest ≡ 0 → IsUnderWay rows rest old now changes made → AreMade rows old now changes
-all_made rows [] old now changes made none way = record { allowed = way.refusal; after = sym way.after; transforms = way.transforms; exact = sym (way.exact ∙ append-nil changes) }
-all_made rows (p ∷ rest) old now changes made none way = absurd (omega (arith, none))
-
 -- ---- the import
 
 nothing_kept : (x : Option Import) → option_map (λ (i : Import). i.rows) x ≡ None → is_some x ≡ false
@@ -85,13 +80,6 @@ module _ (id : List ℕ) (kind : ImportKind) (bytes : List ℕ) (rows : List Pla
   -- a stored import changes nothing
   pub kept_unchanged : (n : ℕ) → kept_rows old id ≡ Some n → [] ≡ import_changes id kind bytes rows old
   kept_unchanged n is = sym (ap unless_kept (something_kept (import_of old id) n is))
-
-  -- a new one changes what its rows do, and last comes its own row
-  pub new_changes : kept_rows old id ≡ None → (mid : State) (changes : List Change) → AreMade rows old mid changes
-      → changes ++ import_added (record { id = id; kind = kind; bytes = bytes; rows = length rows }) ∷ [] ≡ import_changes id kind bytes rows old
-  new_changes free mid changes made =
-      ap (λ (cs : List Change). cs ++ import_added (record { id = id; kind = kind; bytes = bytes; rows = length rows }) ∷ []) made.exact
-      ∙ sym (ap unless_kept (nothing_kept (import_of old id) free))
 
 module _ (id : List ℕ) (kind : ImportKind) (bytes : List ℕ) (rows : List Plain) (old : State) (passed : first (import_tests old id kind bytes) ≡ None) where
   -- a stored import answers its own number

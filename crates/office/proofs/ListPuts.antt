@@ -1,11 +1,9 @@
 -- What is known where a list may be put or dropped: there is an open round, the choices are few and known, and so is the
 -- student.
-use Rattle.std.proofs.Common.{◌≡◌, ℕ, zero, suc, ◌≤◌, ◌==◌, true, false, ◌&&◌, nat_le, List, [], length, Option, Some, None, is_some, refl, ap, arith}
 use Rattle.std.specs.Cmp.{second_so}
-use Rattle.office.proofs.Common.{option_map_or, AllByRecursion, RANKS, Round, PutList, ReopenRound, State, has_project, round_of, last_round, round_is_open, plain_refusal, list_tests, reopening_tests, allowed, IsFit}
+use Rattle.office.proofs.Common.{option_map_or, AllByRecursion, RANKS, Round, PutList, ReopenRound, State, has_project, round_of, last_round, round_is_open, plain_refusal, list_tests, reopening_tests, allowed, IsFit, ◌≡◌, ℕ, zero, suc, ◌≤◌, [], Option, Some, None, refl, ap, arith, ◌==◌, true, false, ◌&&◌, nat_le, List, is_some}
 use Rattle.std.proofs.lemmas.Bool.Decides.{nat_tests}
 use Rattle.rolls.proofs.LastRound.{some_round}
-use Rattle.change_laws.proofs.Entries.{not_false}
 use Rattle.change_laws.proofs.KnownChoices.{choices_known}
 
 open_found : (x : Option Round) → option_map_or (λ r. r.is_open) x false ≡ true → is_some x ≡ true
@@ -26,9 +24,6 @@ one_or_more (suc n) h = omega arith
 module _ (o : State) (student : List ℕ) (choices : List (List ℕ)) (none : plain_refusal o (PutList student choices) ≡ None) where
   passed : AllByRecursion (λ t. t.0 ≡ false) (list_tests o student choices)
   passed = allowed (list_tests o student choices) none
-
-  pub list_few : length choices ≤ RANKS
-  list_few = few (length choices) (not_false (nat_le 1 (length choices) && nat_le (length choices) RANKS) passed.1.1.1.0)
 
   pub list_known : AllByRecursion (λ p. has_project o p ≡ true) choices
   list_known = choices_known o [] choices passed.1.1.1.1

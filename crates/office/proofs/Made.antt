@@ -1,6 +1,5 @@
 -- A plain request was made: the office after it is the one that is asked for, so it is fit, and the changes transform the rows.
-use Rattle.std.proofs.Common.{◌≡◌, List, Option, Some, None, sym, ap, subst, ◌∙◌}
-use Rattle.office.proofs.Common.{option_map_or, Round, Plain, Done, put, State, round_key, round_of, last_round, IsFit, Transforms, plain_refusal, after_plain, plain_reply, with_last, IsDone, changes_of}
+use Rattle.office.proofs.Common.{option_map_or, Round, Plain, Done, put, State, round_key, round_of, last_round, IsFit, Transforms, plain_refusal, after_plain, plain_reply, with_last, IsDone, changes_of, ◌≡◌, Option, Some, None, sym, ap, subst, ◌∙◌, List}
 use Rattle.change_laws.proofs.StaysFit.{stays_fit}
 use Rattle.change_laws.proofs.PlainTransforms.{changes_transform}
 

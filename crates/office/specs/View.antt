@@ -1,6 +1,6 @@
 -- The office that the fields of the program's type stand for.
+use Rattle.office.specs.Common.{State}
 use Rattle.office.specs.declared.office.Office.TheInside.{Inside}
-use Rattle.rolls.specs.State.{State}
 
 -- the office of an `Office`
 abbrev pub state_of : Inside → State

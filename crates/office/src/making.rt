@@ -1,9 +1,8 @@
 //! New entries, each with its row.
 
-ghost use Rattle.std.specs.Prelude.{◌≡◌, ℕ, List, [], ◌∷◌, IfOk, IsTrue};
+ghost use Rattle.std.specs.Prelude.{◌≡◌, ◌∷◌, ℕ, List, [], IfOk, IsTrue};
+ghost use Rattle.office.specs.Common.{put_or_added, project_cells, student_cells, supervisor_cells};
 ghost use Rattle.spa.specs.Text.{is_code, is_label};
-ghost use Rattle.rolls.specs.Making.{put_or_added};
-ghost use Rattle.rolls.specs.Rows.{project_cells, student_cells, supervisor_cells};
 
 use rolls::{Change, Project, Row, Student, Supervisor, Table, Text};
 use spa::{Code, Label};

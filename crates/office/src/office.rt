@@ -9,13 +9,8 @@ mod puts;
 mod reads;
 mod rounds;
 
-ghost use Rattle.std.specs.Prelude.{ℕ, ◌≡◌, ◌∷◌, not, IfOk, IsOk, OnErr, Err, None, []};
-ghost use Rattle.rolls.specs.State.{State, empty};
-ghost use Rattle.rolls.specs.Fit.{IsFit};
-ghost use Rattle.rolls.specs.Refusing.{first, plain_refusal, refusal_of, round_tests};
-ghost use Rattle.rolls.specs.Answers.{Answers, IsDone};
-ghost use Rattle.rolls.specs.Rows.{AreRowsOf};
-ghost use Rattle.rolls.specs.Making.{changes_of};
+ghost use Rattle.std.specs.Prelude.{◌≡◌, ◌∷◌, ℕ, not, IfOk, IsOk, OnErr, Err, None, []};
+ghost use Rattle.office.specs.Common.{State, empty, IsFit, first, plain_refusal, refusal_of, round_tests, Answers, IsDone, AreRowsOf, changes_of};
 ghost use Rattle.decoding.specs.View.{drafted};
 
 use decoding::{PartialOffice, RowsFault, gather};

@@ -1,8 +1,7 @@
 -- Rounds that are numbered from 1. The round with a number stands at the place before it, so a round that is put with the last
 -- number takes the last place, and one with the next number is added after them. What a round holds is read by `option_map_or`:
 -- one lemma for all such readings, whether a change keeps what is read or another round is read.
-use Rattle.std.proofs.Common.{◌≡◌, ℕ, zero, suc, ◌+◌, ◌<◌, ◌≤◌, inl, inr, Bool, true, false, not, cond, List, [], ◌∷◌, ◌++◌, length, Option, Some, None, is_some, slice_get, refl, sym, ap, ◌∙◌, arith}
-use Rattle.rolls.proofs.Common.{◌==◌, ◌&&◌, option_map, option_map_or, first_so, second_so, nat_cmp_is, is_lt, is_eq, ordering_then, Ordering, Less, Equal, Greater, and_from, eqb-true, eq-eqb, cases_eq, cases_order, cases_Bool, slice_get_past, slice_get_cases, Round, Listed, RoundAim, key_cmp, same_key, by_order, find, put, is_below, rises, State, round_key, aim_key, list_key, round_of, last_round, is_open, is_closed, lists_of, choices_in, are_aimed, are_numbered, only_last_open}
+use Rattle.rolls.proofs.Common.{◌==◌, ◌&&◌, option_map, option_map_or, first_so, second_so, nat_cmp_is, is_lt, is_eq, ordering_then, Ordering, Less, Equal, Greater, and_from, eqb-true, eq-eqb, cases_eq, cases_order, cases_Bool, slice_get_past, slice_get_cases, Round, Listed, RoundAim, key_cmp, same_key, by_order, find, put, is_below, rises, State, round_key, aim_key, list_key, round_of, last_round, is_open, is_closed, lists_of, choices_in, are_aimed, are_numbered, only_last_open, ◌≡◌, ℕ, zero, suc, ◌+◌, ◌<◌, ◌≤◌, inl, inr, Bool, true, false, not, cond, List, [], ◌∷◌, ◌++◌, length, Option, Some, None, is_some, slice_get, refl, sym, ap, ◌∙◌, arith}
 use Rattle.spa.specs.declared.aim.Aim.{Aim}
 use Rattle.rolls.specs.Stepping.{with_last, after_opening}
 use Rattle.rolls.proofs.EntryChange.{find-put}
@@ -202,16 +201,6 @@ module _ (o : State) (numbered : are_numbered 1 o.rounds ≡ true) where
     | inl same ↦ absurd (let c : is_open o (last_round o) ≡ false = ap (is_open o) (sym same) ∙ closed_is_not_open o n closed in cc)
     | inr other ↦ omega (arith, other, (closed_within n closed).within)
   ]
-
-closed_ahead : (rs : List Round) (k : ℕ) (r : Round) → only_last_open rs ≡ true → suc k < length rs → slice_get rs k ≡ Some r → r.is_open ≡ false
-closed_ahead [] k r h l is = absurd (omega (arith, l))
-closed_ahead (x ∷ []) k r h l is = absurd (omega (arith, l))
-closed_ahead (x ∷ y ∷ rs) zero r h l is = ap (λ o. option_map_or (λ r. r.is_open) o false) (sym is) ∙ was_not x.is_open (first_so (not x.is_open) (only_last_open (y ∷ rs)) h)
-  where
-    was_not : (b : Bool) → not b ≡ true → b ≡ false
-    was_not true h = sym h
-    was_not false h = refl
-closed_ahead (x ∷ y ∷ rs) (suc k) r h l is = closed_ahead (y ∷ rs) k r (second_so (not x.is_open) (only_last_open (y ∷ rs)) h) (omega (arith, l)) is
 
 -- ---- the last round changed, its number kept
 

@@ -1,7 +1,6 @@
 -- Entries that are all found among others are no more than these: an office has no more placements than students, and no more
 -- lists in a round.
-use Rattle.std.proofs.Common.{◌≡◌, ◌⊎◌, ℕ, ◌-◌, ◌≤◌, inl, inr, true, false, cond, List, [], ◌∷◌, length, Option, Some, None, is_some, slice_get, refl, sym, ap, ◌∙◌, arith}
-use Rattle.rolls.proofs.Common.{option_map_or, AllByRecursion, first_so, second_so, is_lt, is_eq, ordering_reverse, Ordering, Less, Equal, Greater, Listed, Placement, Key, key_cmp, has, entry, is_below, rises, State, student_key, list_key, placement_key, list_of, lists_of, has_student, IsFit, ListFits, PlacementFits}
+use Rattle.rolls.proofs.Common.{option_map_or, AllByRecursion, first_so, second_so, is_lt, is_eq, ordering_reverse, Ordering, Less, Equal, Greater, Listed, Placement, Key, key_cmp, has, entry, is_below, rises, State, student_key, list_key, placement_key, list_of, lists_of, has_student, IsFit, ListFits, PlacementFits, ◌≡◌, ◌⊎◌, ℕ, ◌-◌, ◌≤◌, inl, inr, true, false, cond, List, [], ◌∷◌, length, Option, Some, None, is_some, slice_get, refl, sym, ap, ◌∙◌, arith}
 use Rattle.rolls.proofs.EntryChange.{all_weaker}
 use Rattle.rolls.proofs.Found.{found_key, holds_of_found}
 use Rattle.rolls.proofs.Places.{keys_total, find_below, below_all}

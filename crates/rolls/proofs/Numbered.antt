@@ -1,6 +1,5 @@
 -- Numbers one after another, and what f gives of each.
-use Rattle.std.proofs.Common.{◌≡◌, ℕ, zero, suc, ◌+◌, ◌<◌, List, [], ◌∷◌, length, map, get_or, refl, ap, ◌∙◌, arith}
-use Rattle.rolls.proofs.Common.{range_with_len}
+use Rattle.rolls.proofs.Common.{range_with_len, ◌≡◌, ℕ, zero, suc, ◌+◌, ◌<◌, List, [], ◌∷◌, length, map, get_or, refl, ap, ◌∙◌, arith}
 
 -- a list of n numbers, of which the k-th is f (a + k)
 pub listed : (xs : List ℕ) (f : ℕ → ℕ) (a n : ℕ) → length xs ≡ n → ((k : ℕ) → k < n → get_or xs k 0 ≡ f (a + k)) → xs ≡ map f (range_with_len a n)

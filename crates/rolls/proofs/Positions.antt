@@ -1,11 +1,10 @@
 -- Positions of entries whose keys rise: an entry is found by its own key, and no two positions have one key. So what is counted at
 -- positions is counted by codes.
-use Rattle.std.proofs.Common.{◌≡◌, ℕ, zero, suc, ◌+◌, ◌<◌, ◌==◌, count_by, take, get_or, inl, inr, Bool, true, false, cond, List, [], ◌∷◌, length, Option, Some, None, is_some, slice_get, refl, sym, ap, ◌∙◌, arith}
-use Rattle.rolls.proofs.Common.{option_map_or, first_so, second_so, bytes_eq, cases_eq, false_from_ne_true, nat_tests, slice_get_cases, Project, Key, same_key, find, has, is_below, rises, State, supervisor_key, project_key, IsFit, ProjectFits, IsAt, AreRolls}
+use Rattle.rolls.proofs.Common.{option_map_or, first_so, second_so, bytes_eq, cases_eq, false_from_ne_true, nat_tests, slice_get_cases, Project, Key, same_key, find, has, is_below, rises, supervisor_key, project_key, IsAt, AreRolls, ◌≡◌, ℕ, zero, suc, ◌+◌, ◌<◌, count_by, take, get_or, inl, inr, Bool, true, false, cond, List, [], ◌∷◌, length, Option, Some, None, is_some, slice_get, refl, sym, ap, ◌∙◌, arith, ◌==◌}
 use Rattle.std.proofs.lemmas.List.Sums.{count_by_more_yes, count_by_more_no}
 use Rattle.rolls.specs.declared.entries.Supervisor.{Supervisor}
 use Rattle.rolls.specs.Inside.Counted.{ArePositions, IsOffRoll}
-use Rattle.rolls.proofs.EntryChange.{same_code, all_weaker}
+use Rattle.rolls.proofs.EntryChange.{same_code}
 use Rattle.rolls.proofs.Found.{found_key}
 use Rattle.rolls.proofs.Places.{find_below}
 use Rattle.rolls.proofs.EntryChange.{same_bytes, bytes_self}
@@ -95,16 +94,6 @@ module _ (supervisors : List Supervisor) (projects : List Project) (rolls : AreR
     no_project = λ k d is. nowhere project_key (λ (x : Project). x.code) (λ x. refl) projects k d project none is;
     no_supervisor = λ s. ap (λ (x : Option Project). option_map_or (λ y. bytes_eq s y.supervisor) x false) none;
   }
-
--- a fit office has such rolls
-pub fit_rolls : (o : State) → IsFit o → AreRolls o.supervisors o.projects
-fit_rolls o fit = record {
-  supervisors_rise = fit.supervisors.rise;
-  projects_rise = fit.projects.rise;
-  few_supervisors = fit.supervisors.few;
-  few_projects = fit.projects.few;
-  offered = all_weaker (ProjectFits o) (λ (p : Project). has supervisor_key (0, p.supervisor) o.supervisors ≡ true) (λ p fits. fits.supervisor) o.projects fit.projects.each;
-}
 
 -- ---- counts
 

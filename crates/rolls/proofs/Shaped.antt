@@ -1,6 +1,6 @@
 -- Of a fit office the keys of all entries rise, and each list has choices.
-use Rattle.std.proofs.Common.{◌≡◌, ℕ, suc, ◌<◌, ◌≤◌, true, List, [], ◌∷◌, length, Less, Equal, refl, sym, ap, ◌∙◌, arith}
-use Rattle.rolls.proofs.Common.{◌==◌, ◌&&◌, AllByRecursion, is_lt, nat_cmp, ordering_then, first_so, second_so, nat_cmp_is, nat_tests, Round, RoundAim, rises, is_below, State, supervisor_key, project_key, student_key, round_key, aim_key, list_key, placement_key, import_key, lists_of, IsFit, ListFits, are_aimed, are_numbered}
+use Rattle.std.proofs.Common.{Less, Equal}
+use Rattle.rolls.proofs.Common.{◌==◌, ◌&&◌, AllByRecursion, is_lt, nat_cmp, ordering_then, first_so, second_so, nat_cmp_is, nat_tests, Round, RoundAim, rises, is_below, State, supervisor_key, project_key, student_key, round_key, aim_key, list_key, placement_key, import_key, lists_of, IsFit, ListFits, are_aimed, are_numbered, ◌≡◌, ℕ, suc, ◌<◌, ◌≤◌, true, List, [], ◌∷◌, length, refl, sym, ap, ◌∙◌, arith}
 use Rattle.rolls.proofs.EntryChange.{all_weaker}
 
 -- keys rise, and each list has choices

@@ -1,15 +1,6 @@
 -- How many placements each project and each supervisor has, by position in the rolls.
-use Rattle.std.specs.Prelude.{◌≡◌, ℕ, ◌≤◌, ◌&&◌, nat_le, Bool, true, false, IsTrue, List, length, count_by, slice_get, slice_index, Option, Some, None}
-use Rattle.std.specs.Option.{option_map_or}
-use Rattle.std.specs.List.{AllByRecursion}
-use Rattle.std.specs.Str.{bytes_eq}
-use Rattle.spa.specs.declared.TheConstants.{MAX_SUPERVISORS, MAX_PROJECTS}
-use Rattle.spa.specs.Counted.{Counted}
-use Rattle.rolls.specs.declared.entries.Supervisor.{Supervisor}
-use Rattle.rolls.specs.declared.entries.Project.{Project}
-use Rattle.rolls.specs.declared.rounds.Placement.{Placement}
-use Rattle.rolls.specs.Roll.{of_code, find, has, rises}
-use Rattle.rolls.specs.State.{supervisor_key, project_key}
+use Rattle.std.specs.Prelude.{◌≡◌, ◌≤◌, ◌&&◌, ℕ, nat_le, Bool, true, false, IsTrue, List, length, count_by, slice_get, slice_index, Option, Some, None}
+use Rattle.rolls.specs.Common.{option_map_or, AllByRecursion, bytes_eq, MAX_SUPERVISORS, MAX_PROJECTS, Counted, SupervisorEntry as Supervisor, ProjectEntry as Project, PlacementEntry as Placement, of_code, find, has, rises, supervisor_key, project_key}
 
 -- whether a round up to this one made the placement; where none is named, any round did
 abbrev pub is_made_by : Option ℕ → Placement → Bool

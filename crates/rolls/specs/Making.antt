@@ -1,15 +1,8 @@
 -- The changes of the tables that plain requests make, the first of them first.
-use Rattle.std.specs.Prelude.{ℕ, suc, ◌+◌, Bool, true, List, [], ◌∷◌, ◌++◌, if◌then◌else◌}
-use Rattle.spa.specs.declared.aim.Aim.{Aim}
-use Rattle.row_model.specs.declared.cell.Cell.TheVariants.{Text, Number}
-use Rattle.row_model.specs.declared.table.Table.TheVariants.{Supervisor, Project, Student, Round, RoundAim, Choice}
-use Rattle.row_model.specs.declared.row.Change.{Change}
+use Rattle.std.specs.Prelude.{◌+◌, ◌∷◌, ◌++◌, if◌then◌else◌, ℕ, suc, Bool, true, List, []}
+use Rattle.rolls.specs.Common.{Aim, Text, Number, Supervisor, Project, Student, Round, RoundAim, Choice, Change, RowOf, PartOf, Plain, PutSupervisor, PutProject, PutStudent, OpenRound, PutList, DropList, ReopenRound, State, has_supervisor, has_project, has_student, has_list, last_round}
 use Rattle.row_model.specs.declared.row.Change.TheVariants.{Put, Add, Remove}
 use Rattle.row_model.specs.declared.row.Group.TheVariants.{List as OfList, Placed}
-use Rattle.row_model.specs.Rows.{RowOf, PartOf}
-use Rattle.rolls.specs.declared.request.Plain.{Plain}
-use Rattle.rolls.specs.declared.request.Plain.TheVariants.{PutSupervisor, PutProject, PutStudent, OpenRound, PutList, DropList, ReopenRound}
-use Rattle.rolls.specs.State.{State, has_supervisor, has_project, has_student, has_list, last_round}
 use Rattle.rolls.specs.Rows.{flag, is_generous, supervisor_cells, project_cells, student_cells, choice_cells}
 
 -- a row goes in the place of the one with its key where that is known, and is added where it is not

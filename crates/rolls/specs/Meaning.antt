@@ -1,14 +1,8 @@
 -- What each plain request means, in one place.
-use Rattle.std.specs.Prelude.{◌+◌, Bool, true, false, not, List, [], ◌∷◌, length, Option, Some}
-use Rattle.std.specs.Option.{option_map}
-use Rattle.rolls.specs.declared.refusal.Refusal.{Refusal}
+use Rattle.std.specs.Prelude.{◌+◌, ◌∷◌, Bool, true, false, not, List, [], length, Option, Some}
+use Rattle.rolls.specs.Common.{option_map, Refusal, Reply, Plain, PutSupervisor, PutProject, PutStudent, OpenRound, PutList, DropList, ReopenRound, GetSupervisor, GetProject, GetStudent, GetRound, of_code, put, take_out, State, supervisor_key, project_key, student_key, list_key, supervisor_of, project_of, student_of, aim_of, placement_of, has_supervisor, has_project, has_student, last_round, is_open, lists_of, open_choices, placed_in_project, placed_with_supervisor, placed_in_round, placed_at_rank}
 use Rattle.rolls.specs.declared.refusal.Refusal.TheVariants as no
-use Rattle.rolls.specs.declared.request.Reply.{Reply}
 use Rattle.rolls.specs.declared.request.Reply.TheVariants as reply
-use Rattle.rolls.specs.declared.request.Plain.{Plain}
-use Rattle.rolls.specs.declared.request.Plain.TheVariants.{PutSupervisor, PutProject, PutStudent, OpenRound, PutList, DropList, ReopenRound, GetSupervisor, GetProject, GetStudent, GetRound}
-use Rattle.rolls.specs.Roll.{of_code, put, take_out}
-use Rattle.rolls.specs.State.{State, supervisor_key, project_key, student_key, list_key, supervisor_of, project_of, student_of, aim_of, placement_of, has_supervisor, has_project, has_student, last_round, is_open, lists_of, open_choices, placed_in_project, placed_with_supervisor, placed_in_round, placed_at_rank}
 use Rattle.rolls.specs.Tests.{supervisor_tests, project_tests, student_tests, opening_tests, list_tests, drop_tests, reopening_tests, round_tests}
 use Rattle.rolls.specs.Moves.{with_last, after_opening, after_reopening, by_rank}
 

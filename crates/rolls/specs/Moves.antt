@@ -1,12 +1,6 @@
 -- What requests make of the office, and answer, in parts.
-use Rattle.std.specs.Prelude.{ℕ, ◌+◌, ◌==◌, not, true, List, [], filter, map}
-use Rattle.std.specs.List.{range_with_len}
-use Rattle.std.specs.Option.{option_map_or}
-use Rattle.spa.specs.declared.TheConstants.{RANKS}
-use Rattle.spa.specs.declared.aim.Aim.{Aim}
-use Rattle.rolls.specs.declared.rounds.Round.{Round}
-use Rattle.rolls.specs.Roll.{put}
-use Rattle.rolls.specs.State.{State, round_key, aim_key, round_of, last_round}
+use Rattle.rolls.specs.Common.{range_with_len, option_map_or, RANKS, Aim, RoundEntry as Round, put, State, round_key, aim_key, round_of, last_round}
+use Rattle.std.specs.Prelude.{◌+◌, ◌==◌, filter, ℕ, not, true, List, [], map}
 
 -- the office with what f makes of its last round
 abbrev pub with_last : (Round → Round) → State → State

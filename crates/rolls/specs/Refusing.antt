@@ -1,9 +1,5 @@
 -- Which refusal a request gets, if any: in each line the first that applies.
-use Rattle.std.specs.Prelude.{Option}
-use Rattle.rolls.specs.declared.refusal.Refusal.{Refusal}
-use Rattle.rolls.specs.State.{State}
-use Rattle.rolls.specs.declared.request.Plain.{Plain}
-use Rattle.rolls.specs.declared.request.Request.{Request}
+use Rattle.rolls.specs.Common.{Option, Refusal, State, Plain, Request}
 use Rattle.rolls.specs.declared.request.Request.TheVariants as request
 pub use Rattle.rolls.specs.Tests.{first, is_moved, supervisor_tests, project_tests, student_tests, opening_tests, choice_tests, list_tests, drop_tests, reopening_tests, open_tests, round_tests, is_other_import, import_tests}
 use Rattle.rolls.specs.Meaning.{meaning}

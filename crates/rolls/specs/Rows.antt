@@ -1,23 +1,9 @@
 -- The rows that an office has in each table.
-use Rattle.std.specs.Prelude.{ℕ, suc, Bool, true, false, List, [], ◌∷◌, map, flat_map, if◌then◌else◌}
-use Rattle.spa.specs.declared.aim.Aim.{Aim}
-use Rattle.spa.specs.declared.aim.Aim.TheVariants.{Greedy, Generous}
+use Rattle.std.specs.Prelude.{◌∷◌, if◌then◌else◌, ℕ, suc, Bool, true, false, List, [], map, flat_map}
+use Rattle.rolls.specs.Common.{Aim, Greedy, Generous, Text, Number, Bytes, Change, Supervisor, Project, Student, Round, Import, RoundAim, Choice, Placement, Cells, AllRows, RowOf, SameRows, of_table, SupervisorEntry, ProjectEntry, StudentEntry, RoundEntry, Listed, PlacementEntry, AimEntry, ImportEntry, State}
 use Rattle.row_model.specs.declared.cell.Cell.{Cell}
-use Rattle.row_model.specs.declared.cell.Cell.TheVariants.{Text, Number, Bytes}
-use Rattle.row_model.specs.declared.row.Change.{Change}
-use Rattle.row_model.specs.declared.table.Table.TheVariants.{Supervisor, Project, Student, Round, Import, RoundAim, Choice, Placement}
-use Rattle.row_model.specs.Rows.{Cells, AllRows, RowOf, SameRows, of_table}
 use Rattle.row_model.specs.Changes.{TransformsRows}
-use Rattle.rolls.specs.declared.entries.Supervisor.{Supervisor as SupervisorEntry}
-use Rattle.rolls.specs.declared.entries.Project.{Project as ProjectEntry}
-use Rattle.rolls.specs.declared.entries.Student.{Student as StudentEntry}
-use Rattle.rolls.specs.declared.rounds.Round.{Round as RoundEntry}
-use Rattle.rolls.specs.declared.rounds.Listed.{Listed}
-use Rattle.rolls.specs.declared.rounds.Placement.{Placement as PlacementEntry}
-use Rattle.rolls.specs.declared.rounds.RoundAim.{RoundAim as AimEntry}
-use Rattle.rolls.specs.declared.import.Import.{Import as ImportEntry}
 use Rattle.rolls.specs.Kinds.{word_of}
-use Rattle.rolls.specs.State.{State}
 
 -- a truth value in a cell
 abbrev pub flag : Bool → Cell

@@ -1,8 +1,5 @@
 -- What a request that is not refused makes of the office, and its answer.
-use Rattle.std.specs.Prelude.{Option}
-use Rattle.rolls.specs.declared.request.Reply.{Reply}
-use Rattle.rolls.specs.State.{State}
-use Rattle.rolls.specs.declared.request.Plain.{Plain}
+use Rattle.rolls.specs.Common.{Option, Reply, State, Plain}
 pub use Rattle.rolls.specs.Moves.{with_last, after_opening, after_reopening, by_rank}
 use Rattle.rolls.specs.Meaning.{meaning}
 

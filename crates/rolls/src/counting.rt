@@ -1,6 +1,6 @@
 //! Placements, counted for all projects and supervisors in one pass.
 
-ghost use Rattle.std.specs.Prelude.{◌≡◌, ℕ, ◌+◌, ◌<◌, ◌^◌, IfSome, None, length, slice_index};
+ghost use Rattle.std.specs.Prelude.{◌≡◌, ◌+◌, ◌<◌, ◌^◌, ℕ, IfSome, None, length, slice_index};
 ghost use Rattle.rolls.specs.Counted.{is_made_by, AreRolls, AreCounted};
 ghost use Rattle.rolls.specs.Inside.Counted.{ArePositions, IsOffRoll, CountsPlacement};
 

@@ -1,6 +1,6 @@
 //! The key and the copy of each kind of entry.
 
-ghost use Rattle.rolls.specs.State.{supervisor_key, project_key, student_key, round_key, aim_key, list_key, placement_key, import_key};
+ghost use Rattle.rolls.specs.Common.{supervisor_key, project_key, student_key, round_key, aim_key, list_key, placement_key, import_key};
 
 use crate::entries::{Project, Student, Supervisor};
 use crate::import::Import;

@@ -1,6 +1,5 @@
 -- The rows of all rolls, one after the other.
-use Rattle.std.proofs.Common.{◌≡◌, ◌≢◌, ◌⊎◌, inl, inr, ℕ, ◌+◌, ◌<◌, length, get_or, take, arith, List, [], ◌∷◌, ◌++◌, map, refl, sym, ap, subst, ◌∙◌, append-nil, IsTrue, true}
-use Rattle.store.proofs.Common.{take_all, take_more, get_or_default, Has, has_either, has_left, has_right, has_at, Values, Database, Seen, IsUnchanged, Table, Cells, RowOf, of_table, values, HoldsColumns, ReadsTable, ReadsSome, HoldsNoRow, ReadsAll, HoldsUnread, decide_table}
+use Rattle.store.proofs.Common.{take_all, take_more, get_or_default, Has, has_either, has_left, has_right, has_at, Values, Database, Seen, IsUnchanged, Table, Cells, RowOf, of_table, values, HoldsColumns, ReadsTable, ReadsSome, HoldsNoRow, ReadsAll, HoldsUnread, decide_table, ◌≡◌, ◌≢◌, ◌⊎◌, inl, inr, ℕ, ◌+◌, ◌<◌, length, get_or, take, arith, List, [], ◌∷◌, ◌++◌, map, refl, sym, ap, subst, ◌∙◌, append-nil, IsTrue, true}
 use Rattle.store.proofs.Among.{are_once, is_among, not_before, stands_among}
 use Rattle.store.proofs.CellByCell.{of_both}
 

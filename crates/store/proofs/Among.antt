@@ -1,6 +1,5 @@
 -- The tables of the editions: which is among which, and that none comes twice.
-use Rattle.std.proofs.Common.{◌≡◌, ◌≢◌, ◌⊎◌, inl, inr, ℕ, zero, suc, ◌<◌, List, [], ◌∷◌, ◌++◌, length, get_or, take, Bool, true, not, refl, sym, ap, ◌∙◌, arith, true≢false}
-use Rattle.store.proofs.Common.{◌&&◌, ◌||◌, false, first_so, list_any, list_all, and_parts, or_parts, not-true, get_or_default, Has, has_at, some_from, Table, Choice, Edition, Placement, RoundAim, IsPart, IsRow, PartOf, RowOf, are_of, kinds_of, of_table, same_table, shared_kinds, table_of, same_table_is, same_table_self, decide_table, AnEdition, First, Second, Third, HaveNoLater, olds, beyond, rolls_of, IsRollTable, rolls}
+use Rattle.store.proofs.Common.{◌&&◌, ◌||◌, false, first_so, list_any, list_all, and_parts, or_parts, not-true, get_or_default, Has, has_at, some_from, Table, Choice, Edition, Placement, RoundAim, IsPart, IsRow, PartOf, RowOf, are_of, kinds_of, of_table, same_table, shared_kinds, table_of, same_table_is, same_table_self, decide_table, AnEdition, First, Second, Third, HaveNoLater, olds, beyond, rolls_of, IsRollTable, rolls, ◌≡◌, ◌≢◌, ◌⊎◌, inl, inr, ℕ, zero, suc, ◌<◌, List, [], ◌∷◌, ◌++◌, length, get_or, take, Bool, true, not, refl, sym, ap, ◌∙◌, arith, true≢false}
 use Rattle.store.specs.Rows.{IsAmong}
 
 unfoldable pub are_once : List Table → Bool

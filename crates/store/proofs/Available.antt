@@ -1,69 +1,31 @@
 -- No change of a valid request is refused by tables of ours.
-use Rattle.std.proofs.Common.{◌≡◌, ◌≢◌, ◌⊎◌, inl, inr, ℕ, ℤ, pos, zero, suc, ◌≤◌, ◌<◌, ◌^◌, ◌+◌, List, [], ◌∷◌, ◌&&◌, not, codes, drop, filter, length, map, slice_get, take, find, ◌==◌, Option, None, Some, Bool, true, false, refl, sym, ap, subst, ◌∙◌, arith, if◌then◌else◌}
-use Rattle.std.specs.List.{AllByRecursion, list_any}
 use Rattle.std.specs.Ordering.{is_eq}
 use Rattle.std.proofs.lemmas.Cmp.{tied_itself}
 use lib.ListN.{length-map}
-use Rattle.std.specs.List.Sorted.{IsPermutation}
-use Rattle.std.proofs.lemmas.Bool.{and_from, and_parts, false_from_ne_true, not-true}
-use Rattle.std.proofs.lemmas.List.Sorted.{IsPermutation-sym, length_permutation}
-use Rattle.sqlite.specs.Order.{Row as Values, value_cmp}
-use Rattle.sqlite.specs.Table.{Table as AnyTable}
-use Rattle.sqlite.specs.Tree.{has_rowid, rowid, without_rowid}
 use Rattle.sqlite.specs.Edit.{id_in, is_taken, next_rowid, with_rowid}
 use Rattle.sqlite.specs.Rowids.TheVariants.{Chosen}
-use Rattle.sqlite.specs.Effect.{Database, IsDatabase}
-use Rattle.sqlite.specs.declared.types.Value.{Value}
-use Rattle.sqlite.specs.declared.types.Value.TheVariants.{Null, Int, Text as Words, Blob}
 use Rattle.sqlite_value.specs.Order.{column}
 use Rattle.sqlite_value.specs.Keys.{plain}
 use Rattle.sqlite_value.specs.declared.keys.Collation.TheVariants.{Binary}
-use Rattle.sqlite_value.proofs.OrderLemmas.{value_cmp_total}
 use Rattle.sqlite_trees.specs.View.{is_int}
 use Rattle.sqlite_sql.specs.Ops.{fits_i64}
-use Rattle.sqlite_schema.specs.Rules.{agree, equal, passes_checks}
-use Rattle.sqlite_rules.specs.Lists.{Has}
 use Rattle.sqlite_rules.proofs.KeyLemmas.{agree_back}
-use Rattle.sqlite_rules.proofs.ListLemmas.{all_has, has_got, has_filtered, has_kept, some_has}
 use Rattle.sqlite_rules.proofs.ProbeLemmas.{has_mapped}
-use Rattle.sqlite_keyed.proofs.ListLemmas.{IsPermutation-filter, filter-map}
-use Rattle.store.proofs.Common.{drop-map, filter_same}
-use Rattle.row_model.specs.declared.cell.Cell.{Cell}
-use Rattle.row_model.specs.declared.cell.Cell.TheVariants.{Text, Number, Bytes}
-use Rattle.row_model.specs.declared.table.Table.{Table}
-use Rattle.row_model.specs.declared.table.Table.TheVariants.{Edition, Supervisor, Project, Student, Round, Import, RoundAim, Choice, Placement}
-use Rattle.row_model.specs.declared.row.Change.{Change}
-use Rattle.row_model.specs.declared.row.Change.TheVariants.{Add, Put, Remove}
-use Rattle.row_model.specs.Rows.{AllRows, Cells, IsRow, RowOf, begins, key_in, same_table, shared_by}
+use Rattle.store.proofs.Common.{drop-map, filter_same, ◌≡◌, ◌⊎◌, inl, inr, ℕ, ℤ, pos, zero, suc, ◌≤◌, ◌<◌, ◌^◌, ◌+◌, List, [], ◌∷◌, not, codes, drop, filter, length, map, slice_get, None, Some, Bool, true, refl, sym, ap, subst, ◌∙◌, arith, if◌then◌else◌, AllByRecursion, list_any, IsPermutation, and_from, false_from_ne_true, not-true, IsPermutation-sym, length_permutation, Values, value_cmp, AnyTable, has_rowid, rowid, without_rowid, Database, IsDatabase, Null, Int, Words, Blob, value_cmp_total, agree, equal, passes_checks, Has, all_has, has_got, has_filtered, has_kept, some_has, IsPermutation-filter, filter-map, Cell, Text, Number, Bytes, Table, Edition, Supervisor, Project, Student, Round, Import, RoundAim, Choice, Placement, Change, Add, Put, Remove, AllRows, Cells, IsRow, RowOf, begins, key_in, same_table, shared_by, AreFresh, IsFresh, after_change, table_of, flag, ImportKind, Supervisors, Projects, Students, OfLists, word_of, InPlace, New, CanFind, IsMade, IsRefusedIn, OfEntry, adding, changing, replacing, each_of, leaving, IsGiven, fits, free, inert_here, is_first_of, stays_entered, stays_left, Lists, cells, laid_out, made_here, shape_of, table_at, begins_with, rowid_is, IsHinderedAmong, applying, IsLeftAlone, Needs, TablesHold, ◌&&◌, false}
 use Rattle.row_model.specs.declared.row.Group.{Group}
 use Rattle.row_model.specs.declared.row.Group.TheVariants.{List as OfList, Placed}
-use Rattle.row_model.specs.Changes.{AreFresh, IsFresh, after_change, table_of}
-use Rattle.rolls.specs.Rows.{flag}
-use Rattle.rolls.specs.declared.import.ImportKind.{ImportKind}
-use Rattle.rolls.specs.declared.import.ImportKind.TheVariants.{Supervisors, Projects, Students, Lists as OfLists}
-use Rattle.rolls.specs.Kinds.{word_of}
 use Rattle.change_laws.specs.Allowed.{AreAllowed, IsAllowedChange, IsKnown, IsPut, IsShort, IsWithin}
 use Rattle.tables.specs.declared.statements.Entering.{Entering}
-use Rattle.tables.specs.declared.statements.Entering.TheVariants.{InPlace, New}
-use Rattle.tables.specs.Causes.{CanFind, IsMade, IsRefusedIn, OfEntry, adding, changing, replacing}
-use Rattle.tables.specs.Outcomes.{each_of, leaving}
-use Rattle.tables.proofs.Ours.{IsGiven, fits, free, inert_here, is_first_of, stays_entered, stays_left}
 use Rattle.tables.specs.Ours.{HasRoom, IsOurs}
-use Rattle.tables.specs.Table.{Place, Lists, cells, laid_out, made_here, shape_of, table_at}
-use Rattle.tables.specs.Writes.{begins_with}
-use Rattle.tables.proofs.KeyTests.{rowid_is}
 use Rattle.tables.proofs.References.{IsParent, links_of}
 use Rattle.tables.proofs.Rowids.{none_has, permuted_has}
 use Rattle.tables.proofs.Sized.{IsSmall}
 use Rattle.tables.proofs.Stored.{AgreesAt, IsTyped, aim_checked, aim_typed, choice_agrees, choice_checked, choice_typed, equal_ids, import_agrees, import_checked, import_typed, names_at, placement_agrees, placement_checked, placement_typed, project_agrees, project_checked, project_typed, round_agrees, round_begins, round_checked, aim_begins, second_agrees, round_typed, student_agrees, student_checked, student_typed, supervisor_agrees, supervisor_checked, supervisor_typed}
 use Rattle.tables.proofs.Taken.{IsGood, IsUnshared, in_place, none_goes, one_more, some_go, stored}
-use Rattle.store.specs.Causes.{IsHinderedAmong, applying}
 use Rattle.store.specs.Inside.Saving.{AppliesOne}
-use Rattle.store.specs.Saving.{IsLeftAlone, Needs}
 use Rattle.store.proofs.Held.{applies_one}
 use Rattle.store.specs.Rows.{IsAmong, IsRollTable, value_of, values}
 use Rattle.store.proofs.Among.{in_rolls, part_in_rolls, row_in_rolls}
-use Rattle.store.specs.Tables.{TablesHold}
 use Rattle.store.proofs.Begins.{begins_same}
 
 mapped : {X Y : Type 0} (f : X → Y) (xs : List X) (x : X) → Has xs x → Has (map f xs) (f x)

@@ -1,17 +1,12 @@
 -- A row begins with a key as SQL compares them where its cells do.
-use Rattle.std.proofs.Common.{◌≡◌, ℕ, ℤ, pos, negsuc, List, [], ◌∷◌, Bool, true, false, Some, is_eq, refl, sym, ap, subst, ◌∙◌, arith}
-use Rattle.store.proofs.Common.{◌&&◌, Equal-is, int_cmp_is, Decides-eqb, begins_with, Cell, Text, Number, Bytes, Cells, begins, same_cell, value_of, values}
+use Rattle.store.proofs.Common.{◌&&◌, Equal-is, int_cmp_is, Decides-eqb, begins_with, Cell, Text, Number, Bytes, Cells, begins, same_cell, value_of, values, ◌≡◌, ℕ, ℤ, pos, negsuc, List, [], ◌∷◌, Bool, true, Some, is_eq, refl, sym, ap, subst, ◌∙◌, arith, int_cmp, value_cmp-Int, value_cmp-Text, value_cmp-Blob, value_cmp-apart, equal, equal_int, false}
 use Rattle.std.specs.Str.{bytes_eq}
-use Rattle.std.specs.Ordering.{int_cmp}
 use Rattle.std.specs.declared.cmp.Ordering.TheVariants.{Equal}
 use Rattle.std.proofs.lemmas.Slice.Eq.{bytes_eq-Decides}
 use Rattle.std.proofs.lemmas.Map.Text.{is_eq-slice_cmp}
-use Rattle.sqlite_value.proofs.OrderLemmas.{value_cmp-Int, value_cmp-Text, value_cmp-Blob, value_cmp-apart}
 use Rattle.sqlite.specs.declared.types.Value.TheVariants as value
 use Rattle.sqlite.specs.Collation.TheVariants.{Binary}
 use Rattle.sqlite_sql.specs.Ops.{binary, is_true, from_truth}
-use Rattle.sqlite_schema.specs.Rules.{equal}
-use Rattle.tables.proofs.KeyTests.{equal_int}
 
 same_tests : (a b : Bool) → (a ≡ true → b ≡ true) → (b ≡ true → a ≡ true) → a ≡ b
 same_tests true b f g = sym (f refl)

@@ -1,6 +1,5 @@
 -- Rows that are read cell by cell, one row after another.
-use Rattle.std.proofs.Common.{◌≡◌, ◌≢◌, ◌<◌, ◌+◌, ℕ, zero, suc, List, [], ◌∷◌, ◌++◌, length, map, take, drop, get_or, true, cond, not, refl, sym, ap, subst, ◌∙◌, arith}
-use Rattle.store.proofs.Common.{AllByRecursion, second_so, and_parts, and_from, false_from_ne_true, take_more, map-append, Null, Values, column, Cell, Table, Edition, Cells, RowOf, are_of, is_of, kinds_of, of_table, same_table, same_table_is, same_table_self, value_of, values, AreReadRows, IsNoRow, IsTyped, ReadsCells}
+use Rattle.store.proofs.Common.{AllByRecursion, second_so, and_parts, and_from, take_more, map-append, Null, Values, column, Cell, Table, Edition, Cells, RowOf, are_of, is_of, kinds_of, of_table, same_table, value_of, values, IsNoRow, IsTyped, ReadsCells, ◌≡◌, ◌≢◌, ◌<◌, ◌+◌, ℕ, zero, suc, List, [], ◌∷◌, ◌++◌, length, map, take, drop, get_or, true, not, refl, sym, ap, subst, ◌∙◌, arith}
 use Rattle.std.proofs.lemmas.List.Elements.{filter-append}
 use Rattle.row_model.specs.declared.cell.Kind.{Kind}
 
@@ -56,23 +55,3 @@ no_row table kinds told columns i k low is none cells typed same =
 -- the rows of a table among those of two lists
 pub of_both : (rows more : List RowOf) (table : Table) → of_table (rows ++ more) table ≡ of_table rows table ++ of_table more table
 of_both rows more table = ap (map (λ r. r.cells)) (filter-append (λ r. same_table table r.table) rows more) ∙ map-append (λ r. r.cells) _ _
-
--- what one row adds to those of its table, and to those of the others
-pub of_own : (r : RowOf) → of_table (r ∷ []) r.table ≡ r.cells ∷ []
-of_own r = ap (λ b. map (λ r. r.cells) (cond b (r ∷ []) [])) (same_table_self r.table)
-
-pub of_other : (r : RowOf) (table : Table) → table ≢ r.table → of_table (r ∷ []) table ≡ []
-of_other r table other = ap (λ b. map (λ r. r.cells) (cond b (r ∷ []) [])) (false_from_ne_true _ (λ h. other (same_table_is table r.table h)))
-
--- one row more was read
-pub rows_more : (table : Table) (all : List Values) (i : ℕ) (columns : Values) (rows : List RowOf) (row : RowOf) → i < length all → columns ≡ get_or all i columns → AreReadRows table (take i all) rows
-    → row.table ≡ table → values row.cells ≡ drop 1 columns → AreReadRows table (take (i + 1) all) (rows ++ row ∷ [])
-rows_more table all i columns rows row low is so_far kind same =
-    let own : of_table (row ∷ []) table ≡ row.cells ∷ [] = subst (λ t. of_table (row ∷ []) t ≡ row.cells ∷ []) kind (of_own row) in
-    record {
-      columns =
-          ap (map values) (of_both rows (row ∷ []) table ∙ ap (λ more. of_table rows table ++ more) own) ∙ map-append values (of_table rows table) (row.cells ∷ [])
-          ∙ (λ j. so_far.columns j ++ same j ∷ []) ∙ sym (map-append (drop 1) (take i all) (columns ∷ []))
-          ∙ ap (map (drop 1)) (ap (λ x. take i all ++ x ∷ []) is ∙ sym (take_more all i columns low));
-      others = λ other apart. of_both rows (row ∷ []) other ∙ (λ j. so_far.others other apart j ++ of_other row other (λ e. apart (e ∙ kind)) j);
-    }

@@ -1,14 +1,9 @@
 -- Changes one after another.
-use Rattle.std.proofs.Common.{◌≡◌, ℕ, ◌+◌, ◌<◌, List, [], ◌∷◌, ◌++◌, length, get_or, take, refl, sym, ap, subst, ◌∙◌, Result, Ok, Err, OnOk, IsTrue, ◌^◌}
-use Rattle.store.proofs.Common.{take_more, Database, Change, Add, Put, Remove, after_changes, table_of, after_both, Trees, HasStepped, HasSaved, MayRecoverTo, Stays, stays_none, TablesHold, Schema, Has, Lists, table_at, AllNeed, AreInert, IsSaving, Needs, Spares}
-use Rattle.sqlite.specs.State.{State}
+use Rattle.store.proofs.Common.{Database, Change, Add, Put, Remove, after_changes, table_of, after_both, Trees, HasSaved, MayRecoverTo, TablesHold, Schema, Has, Lists, table_at, AllNeed, AreInert, IsSaving, Needs, Spares, ◌≡◌, List, [], ◌∷◌, ◌++◌, length, refl, sym, ap, subst, ◌∙◌, Result, Ok, Err, OnOk, IsTrue, ◌^◌, Seen as State, each_of, did_all, applying}
 use Rattle.store.specs.Saving.{Applies, LeavesOthers, Saves}
 use Rattle.store.specs.Available.{StaysOurs}
 use Rattle.store.proofs.Available.{room_for, run_ours}
 use Rattle.store.specs.Inside.Saving.{AppliesOne}
-use Rattle.tables.specs.Outcomes.{each_of}
-use Rattle.tables.proofs.Outcomes.{did_all}
-use Rattle.store.specs.Causes.{applying}
 use Rattle.store.proofs.Held.{applies_one}
 
 -- no change applies nothing

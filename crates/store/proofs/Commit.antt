@@ -1,24 +1,11 @@
 -- What a transaction leaves of a connection once it is committed or dropped.
-use Rattle.std.proofs.Common.{◌≡◌, false, true, [], IsTrue, refl, sym, subst, ◌∙◌, arith}
-use Rattle.store.proofs.Common.{Database, IsDatabase, Seen, HasCleanDisk, IsUnchanged, KeepsCounts, Survives, Trees, survives_then, HasSaved, HasStepped, MayRecoverTo}
-use Rattle.sqlite.specs.State.{Shows}
-
--- what a commit that went through did
-abbrev pub IsCommitted : Seen → Seen → Type 0
-IsCommitted old new = IsTrue old.in_transaction × Shows old new old.now old.now false × KeepsCounts old new × (new.marks ≡ [])
-
--- what a run of statements is to be in a transaction that has begun, for it to be saved: it was open, and made this step
-pub record HasMade (P : Database → Database → Type 0) (old new : Seen) : Type 0 where
-  pub opened : IsTrue new.is_open → IsTrue old.is_open
-  pub step : P old.now new.now
-
--- one statement
-pub made_one : (P : Database → Database → Type 0) (a b : Seen) → HasStepped P a b → HasMade P a b
-made_one P a b it = record { opened = λ up. it.shown.was_open; step = it.step }
-
--- one statement went through, so that the connection was open, and left a database
-pub sound_one : (P : Database → Database → Type 0) (a b : Seen) → HasStepped P a b → IsTrue a.is_open × IsDatabase b.now
-sound_one P a b it = (it.shown.was_open, it.sound)
+use Rattle.std.specs.Prelude.{IfOk}
+use Rattle.store.proofs.Common.{Option, Result, Ok, Err, ℕ, Stays, stopped_before, IsStopped, Database, Seen, HasCleanDisk, IsUnchanged, Survives, Trees, survives_then, HasStepped, MayRecoverTo, ◌≡◌, true, subst, arith}
+use Rattle.tables.specs.Outcomes.{Outcome}
+use Rattle.tables.specs.Steps.{IsPart}
+use Rattle.tables.specs.declared.fault.TableFault.{TableFault}
+use Rattle.tables.proofs.Runs.{stays_so}
+use Rattle.store.proofs.Causes.{unchanged_before}
 
 module _ (first begun : Seen) (begins : begun ≡ record first { in_transaction = true }) (b c : Seen) where
   -- a transaction that has begun has changed nothing
@@ -26,37 +13,6 @@ module _ (first begun : Seen) (begins : begun ≡ record first { in_transaction 
   from_first P it =
       let same : Survives (record first { in_transaction = true }) b P = subst (λ (s : Seen). Survives s b P) begins it in
       record { clean = same.clean; shield = same.shield; counts = same.counts; limit = same.limit; closes = same.closes; crash = same.crash }
-
-  -- it was committed
-  pub saved_by : (P : Database → Database → Type 0) → (HasCleanDisk b → HasMade P begun b) → (HasCleanDisk c → IsCommitted b c) → Survives b c (λ db. db ≡ b.now.trees) → HasCleanDisk c → HasSaved P first c
-  saved_by P made ends it clean =
-      let early : HasCleanDisk b = omega (arith, it.clean) in
-      let done = made early in
-      let shown = (ends clean).1 in
-      record {
-        shown = record {
-          was_open = subst (λ (s : Seen). IsTrue s.is_open) begins (done.opened shown.was_open);
-          is_open = shown.is_open;
-          now_is = refl;
-          committed_is = shown.committed_is ∙ sym shown.now_is;
-          mode = shown.mode;
-        };
-        step = subst (P first.now) (sym shown.now_is) (subst (λ (s : Seen). P s.now b.now) begins done.step);
-      }
-
-  -- what a crash leaves of it, whether it was committed or not
-  pub left_by : (P : Database → Database → Type 0) → (HasCleanDisk b → HasMade P begun b) → (HasCleanDisk b → IsTrue begun.is_open × IsDatabase b.now) → Survives begun b (λ _. ⊥) → Survives b c (λ db. db ≡ b.now.trees)
-      → Survives first c (MayRecoverTo P first)
-  left_by P made sound one two =
-      survives_then first b c (λ _. ⊥) (λ db. db ≡ b.now.trees) (MayRecoverTo P first) (λ _ db none. absurd none) (λ clean db is.
-      let early : HasCleanDisk b = omega (arith, two.clean) in
-      record {
-        was_open = subst (λ (s : Seen). IsTrue s.is_open) begins (sound early).0;
-        db = b.now;
-        sound = (sound early).1;
-        step = subst (λ (s : Seen). P s.now b.now) begins (made early).step;
-        same = is;
-      }) (from_first (λ _. ⊥) one) two
 
   -- what a crash leaves of it where it was dropped
   pub dropped_by : (P : Database → Database → Type 0) → Survives begun b (λ _. ⊥) → Survives b c (λ _. ⊥) → Survives first c (MayRecoverTo P first)
@@ -74,3 +30,26 @@ module _ (a b c : Seen) (P : Database → Database → Type 0) (one : Survives a
         step = subst (λ (db : Database). P db left.db) (same early).0.now_is left.step;
         same = left.same;
       }) one two
+
+-- a call in a transaction that was stopped, which is then dropped
+pub stopped_within : (H : Option ℕ → Database → Type 0) (first begun mid last : Seen) → begun ≡ record first { in_transaction = true } → (HasCleanDisk mid → IsStopped H begun mid) → Survives mid last (λ _. ⊥) → HasCleanDisk last → IsStopped H first last
+stopped_within H first begun mid last begins it two clean =
+    let early : HasCleanDisk mid = omega (arith, two.clean) in
+    let same : IsStopped H (record first { in_transaction = true }) mid = subst (λ (s : Seen). IsStopped H s mid) begins (it early) in
+    stopped_before H first mid last two.counts (record { why = same.why })
+
+-- the same after a call that changed nothing
+pub stopped_after_all : (H K : Option ℕ → Database → Type 0) (old first begun mid last : Seen) → (HasCleanDisk first → IsUnchanged old first) → Survives old first (λ _. ⊥) → begun ≡ record first { in_transaction = true } → Survives begun mid (λ _. ⊥)
+    → ((limit : Option ℕ) (db : Database) → H limit db → K limit db) → (HasCleanDisk mid → IsStopped H begun mid) → Survives mid last (λ _. ⊥) → HasCleanDisk last → IsStopped K old last
+stopped_after_all H K old first begun mid last same zero begins one f it two clean =
+    let dropped = dropped_by first begun begins mid last (λ _ _. ⊥) one two in
+    let early : HasCleanDisk first = omega (arith, dropped.clean, clean) in
+    unchanged_before H K old first last (same early) zero early dropped.counts f (stopped_within H first begun mid last begins it two clean)
+
+-- one statement is a run of statements
+pub one_runs : (outcome : Outcome) (r : Result (Unit {0}) TableFault) (a b : Seen) → IsPart {A = Unit {0}} (λ _. HasStepped outcome.does) outcome.hinders r a b → IsPart {A = Unit {0}} (λ _. Stays outcome.does) outcome.hinders r a b
+one_runs outcome r a b p = record { survives = p.survives; did = did r p.did; kept = p.kept; starved = p.starved; cause = p.cause }
+  where
+    did : (r : Result (Unit {0}) TableFault) → (HasCleanDisk b → IfOk r (λ _. HasStepped outcome.does a b)) → HasCleanDisk b → IfOk r (λ _. Stays outcome.does a b)
+    did (Ok u) it clean = stays_so outcome.does a b (it clean)
+    did (Err e) it clean = tt

@@ -1,6 +1,5 @@
 -- The office of rows that were read in an edition, and the changes that migrate its tables.
-use Rattle.std.proofs.Common.{◌≡◌, Bool, true, false, cond, List, [], ◌∷◌, ◌++◌, map, filter, inr, refl}
-use Rattle.store.proofs.Common.{Schema, Seen, Change, Add, RowOf, of_table, IsFit, AreRowsOf, State, AnEdition, First, Second, Third, RowsMigrate, ChangesMigrate, aims_of, is_old, olds, renaming_changes, migrated_rows, rows_in_edition, renamed_row, removal_of, migrating_changes, number_of, migrated, rolls_of, AllNeed, AreLeftAmong, IsLeftAlone, AskMigrated, FindsOffice, HoldsRows}
+use Rattle.store.proofs.Common.{Schema, Seen, Change, Add, RowOf, of_table, IsFit, AreRowsOf, State, AnEdition, First, Second, Third, RowsMigrate, ChangesMigrate, aims_of, is_old, olds, renaming_changes, migrated_rows, rows_in_edition, renamed_row, removal_of, migrating_changes, number_of, migrated, rolls_of, AllNeed, AreLeftAmong, IsLeftAlone, AskMigrated, FindsOffice, HoldsRows, ◌≡◌, Bool, true, cond, List, [], ◌∷◌, ◌++◌, map, filter, inr, refl, false}
 use Rattle.store.specs.Rows.{IsAmong}
 use Rattle.store.proofs.Among.{tested_among}
 use Rattle.store.proofs.Standing.{hold_same}

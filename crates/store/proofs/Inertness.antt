@@ -1,6 +1,5 @@
 -- A table that is listed at a tree on which nothing acts.
-use Rattle.std.proofs.Common.{◌≡◌, ◌↔◌, ℕ, Bool, true, false, subst}
-use Rattle.store.proofs.Common.{Schema, Table, table_at, IsActedOn, IsListed, IsUnlisted, listed_at_one, IsLeftAlone, IsActedOnAt}
+use Rattle.store.proofs.Common.{Schema, Table, table_at, IsActedOn, IsListed, IsUnlisted, listed_at_one, IsLeftAlone, IsActedOnAt, ◌≡◌, ◌↔◌, ℕ, Bool, true, subst, false}
 
 -- nor on one that is listed nowhere
 pub left_nowhere : (table : Table) (schema : Schema) → IsUnlisted (table_at table) schema → IsLeftAlone table schema

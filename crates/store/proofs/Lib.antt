@@ -5,7 +5,6 @@ mod Begins
 mod Permutation
 pub mod Standing
 mod CellByCell
-mod Gathered
 mod Held
 mod ChangesInOrder
 mod NewTables
@@ -20,3 +19,4 @@ mod FoundOffice
 mod SameTrees
 mod Opening
 mod Causes
+mod Readings

@@ -1,6 +1,5 @@
 -- What is listed, and what one row says of the edition.
-use Rattle.std.proofs.Common.{◌≡◌, ◌≢◌, ◌⊎◌, inl, inr, ℕ, ◌+◌, ◌<◌, List, [], ◌∷◌, length, get_or, take, map, drop, refl, sym, ap, subst, ◌∙◌, arith}
-use Rattle.store.proofs.Common.{take_more, take_all, get_or_default, has_either, has_at, Values, Schema, Seen, Has, Table, Edition, Place, Lists, rules_of, table_at, IsListed, IsUnlisted, Shows, listed_at_one, IsAmong, AreAllListed, IsAlone, IsElsewhere, IsListedAlone, IsNoRow, HoldsNoRow}
+use Rattle.store.proofs.Common.{take_more, take_all, get_or_default, has_either, has_at, Values, Schema, Seen, Has, Table, Edition, Place, Lists, rules_of, table_at, IsListed, IsUnlisted, Shows, listed_at_one, IsAmong, AreAllListed, IsAlone, IsListedAlone, IsNoRow, HoldsNoRow, ◌≡◌, ◌≢◌, ◌⊎◌, inl, inr, ℕ, ◌+◌, ◌<◌, List, [], ◌∷◌, length, get_or, take, map, drop, refl, sym, ap, subst, ◌∙◌, arith}
 use Rattle.store.proofs.Among.{among_or_not}
 
 -- what holds of this many, and of the next, holds of one more
@@ -18,10 +17,6 @@ of_each P all i end each x among = each x (subst (λ rs. Has rs x) (sym (ap (λ 
 -- the next of the tables is one of them
 pub is_next : (all : List Table) (i : ℕ) (d : Table) → i < length all → Has all (get_or all i d)
 is_next all i d low = has_at all i (get_or all i d) low (get_or_default all i d (get_or all i d) low)
-
--- a table that is listed in another tree is not listed in this one
-pub elsewhere : (table : Table) (schema : Schema) (there tree : ℕ) → IsListed (table_at table) schema there → there ≢ tree → IsElsewhere table tree schema
-elsewhere table schema there tree at other place listed same = other (listed_at_one table schema (record { tree = there; rules = at.0 }) place at.1 listed ∙ same)
 
 -- where another one of these tables is listed in the tree, the table is not alone in it
 pub not_alone : (tables : List Table) (other table : Table) (schema : Schema) (tree : ℕ) → IsAmong tables other → other ≢ table → IsListed (table_at other) schema tree → IsAlone tables table tree schema → ⊥

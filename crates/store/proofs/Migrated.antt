@@ -1,18 +1,11 @@
 -- Tables of an earlier edition are migrated: the number is another, tables come next to those that stand, and rows are added.
-use Rattle.std.proofs.Common.{◌≡◌, ◌≢◌, ◌↔◌, IsTrue, arith, ◌⊎◌, inl, inr, ℕ, pos, Bool, true, false, cond, List, [], ◌∷◌, ◌++◌, map, Option, refl, sym, ap, subst, ◌∙◌, true≢false}
-use Rattle.store.proofs.Common.{◌&&◌, Int, Database, Values, Schema, Seen, HasCleanDisk, IsUnchanged, Survives, AnyTable, Has, all_has, has_either, has_got, Change, AllRows, AnEdition, First, Second, Third, Table, Edition, Place, Lists, table_at, IsActedOn, Stands, IsStopped, stopped_before, Stays, HasStepped, with_row, listed_at_one, listed_once, stands_kept, stands_apart, stepped_as, beyond, latest, number_of, migrated, rolls_of, IsRollTable, rolls, values, AreActedOnAmong, AreLeftAmong, IsLeftAlone, Spares, MakesTables, TablesHold, TablesOf, numbered}
+use Rattle.store.proofs.Common.{◌&&◌, Int, Database, Values, Schema, AnyTable, Has, all_has, has_either, has_got, Change, AllRows, AnEdition, First, Second, Third, Table, Edition, Place, Lists, table_at, IsActedOn, Stands, with_row, listed_at_one, listed_once, stands_kept, stands_apart, beyond, latest, number_of, migrated, rolls_of, AskMigrated, IsRollTable, rolls, values, AreActedOnAmong, AreLeftAmong, IsLeftAlone, Spares, MakesTables, TablesHold, HoldIn, after_changes, TablesOf, numbered, ◌≡◌, ◌≢◌, ◌↔◌, ◌⊎◌, inl, inr, ℕ, pos, Bool, true, cond, List, [], ◌∷◌, ◌++◌, map, refl, sym, ap, subst, ◌∙◌, true≢false, InPlace, enters, latest_number, migrating, false}
 use Rattle.tables.proofs.Quiet.{inert_so}
 use Rattle.tables.specs.Writes.{Puts}
-use Rattle.store.proofs.Causes.{unchanged_before}
-use Rattle.store.proofs.Commit.{dropped_by}
 use Rattle.store.specs.Rows.{IsAmong}
 use Rattle.store.specs.Saving.{Applies}
 use Rattle.store.specs.Tables.{AreRuledAmong, LeavesTables}
-use Rattle.store.specs.Inside.Migrating.{AddsTables, LiftsEdition, Rises}
 use Rattle.store.proofs.Standing.{stand_as}
-use Rattle.tables.specs.declared.statements.Entering.TheVariants.{InPlace}
-use Rattle.tables.proofs.Made.{enters}
-use Rattle.store.specs.Causes.{adding_tables, latest_number, migrating}
 use Rattle.store.proofs.ChangesInOrder.{applied}
 use Rattle.store.proofs.NewTables.{made_all}
 use Rattle.store.proofs.Among.{among_or_not, fresh_beyond, has_left, is_among, old_among, stands_among}
@@ -161,47 +154,24 @@ others_with_edition tables number other rows a b c alone t puts later any listed
       then.1 ∙ all_has _ a.schema.tables any done.1.others (has_got a.schema.tables listed.at any listed.there) (away Edition (inl refl) t.edition t.editions.listed),
     )
 
-adds_tables : (e : AnEdition) (changes : List Change) (a c : Database) → (let it = adding_tables e changes in it.does a c) → AddsTables e changes a c
-unfolding AddsTables Applies
-adds_tables e changes a c (b, tables, changed) asks none rows t =
-    let made = made_all (beyond e) a b tables in
-    let all : TablesHold b rows = subst (λ tables. TablesOf tables (number_of latest) b rows) (all_rolls e) (more_tables (rolls_of e) (beyond e) (number_of latest) rows a b (fresh_beyond e) t made) in
-    let done = applied changes b c changed (asks b.schema (left_so migrated b.schema (quiet_then e (number_of latest) rows a b t made none))) rows all in
-    (done.0, subst (AreRuledAmong (beyond e)) (sym done.1.schema) (made_ruled (beyond e) a b made), others_with_tables e (number_of latest) rows a b c t made done.1)
-
-lifts_edition : (e : AnEdition) (changes : List Change) (a c : Database) → (let it = migrating e changes in it.does a c) → LiftsEdition e changes a c
-unfolding AddsTables Rises LiftsEdition
-lifts_edition e changes a c (b, numbered_so, more) none asks rows t =
+-- where no foreign key acts on the tables in which rows are replaced or taken out, tables of an edition get the number, those that they
+-- lack, and the rows after the changes; each other table stays
+pub rises_by : (e : AnEdition) (changes : List Change) (a d : Database) → (AreActedOnAmong migrated a.schema → ⊥) → (let it = migrating e changes in it.does a d)
+    → AskMigrated changes → (rows : AllRows) → HoldIn e a rows → TablesHold d (after_changes changes rows) × AreRuledAmong (beyond e) d.schema × LeavesTables a d
+unfolding Applies
+rises_by e changes a d none (b, numbered_so, (c, tables, changed)) asks rows t =
     let puts : Puts (table_at Edition) (Int (pos 1) ∷ []) (values latest_number) a b = enters Edition latest_number refl InPlace a b numbered_so in
     let alone = left_so migrated a.schema none Edition (is_among migrated Edition (inl refl)) in
-    let done = other_number (rolls_of e) (number_of e) (number_of latest) rows a b alone t puts in
-    let all = adds_tables e changes b c more asks (λ acted. none (subst (AreActedOnAmong migrated) done.1 acted)) rows done.0 in
-    (all.0, all.1, others_with_edition (rolls_of e) (number_of e) (number_of latest) rows a b c alone t puts all.2)
-
--- a transaction that has begun has the schema that was there
-pub begun_quiet : (first begun : Seen) → begun ≡ record first { in_transaction = true } → (AreActedOnAmong migrated first.now.schema → ⊥) → AreActedOnAmong migrated begun.now.schema → ⊥
-begun_quiet first begun begins none = subst (λ (s : Seen). AreActedOnAmong migrated s.now.schema → ⊥) (sym begins) none
+    let here = other_number (rolls_of e) (number_of e) (number_of latest) rows a b alone t puts in
+    let made = made_all (beyond e) b c tables in
+    let all : TablesHold c rows = subst (λ tables. TablesOf tables (number_of latest) c rows) (all_rolls e) (more_tables (rolls_of e) (beyond e) (number_of latest) rows b c (fresh_beyond e) here.0 made) in
+    let quiet = quiet_then e (number_of latest) rows b c here.0 made (λ acted. none (subst (AreActedOnAmong migrated) here.1 acted)) in
+    let done = applied changes c d changed (asks c.schema (left_so migrated c.schema quiet)) rows all in (
+      done.0,
+      subst (AreRuledAmong (beyond e)) (sym done.1.schema) (made_ruled (beyond e) b c made),
+      others_with_edition (rolls_of e) (number_of e) (number_of latest) rows a b d alone t puts (others_with_tables e (number_of latest) rows b c d here.0 made done.1),
+    )
 
 -- tables that pass the test are not acted on
 pub none_acts : (b : Bool) (schema : Schema) → b ≡ true → (b ≡ false) ↔ AreActedOnAmong migrated schema → AreActedOnAmong migrated schema → ⊥
 none_acts b schema passes exact acted = true≢false (sym passes ∙ exact.1 acted)
-
--- where no foreign key acts on the tables in which rows are replaced or taken out
-pub rises_by : (e : AnEdition) (changes : List Change) (a b : Seen) → (AreActedOnAmong migrated a.now.schema → ⊥) → HasStepped (let it = migrating e changes in it.does) a b → HasStepped (Rises e changes) a b
-unfolding LiftsEdition
-rises_by e changes a b none p = stepped_as (let it = migrating e changes in it.does) (Rises e changes) a b (λ did. lifts_edition e changes a.now b.now did none) p
-
--- a call in a transaction that was stopped, which is then dropped
-pub stopped_within : (H : Option ℕ → Database → Type 0) (first begun mid last : Seen) → begun ≡ record first { in_transaction = true } → (HasCleanDisk mid → IsStopped H begun mid) → Survives mid last (λ _. ⊥) → HasCleanDisk last → IsStopped H first last
-stopped_within H first begun mid last begins it two clean =
-    let early : HasCleanDisk mid = omega (arith, two.clean) in
-    let same : IsStopped H (record first { in_transaction = true }) mid = subst (λ (s : Seen). IsStopped H s mid) begins (it early) in
-    stopped_before H first mid last two.counts (record { why = same.why })
-
--- the same after a call that changed nothing
-pub stopped_after_all : (H K : Option ℕ → Database → Type 0) (old first begun mid last : Seen) → (HasCleanDisk first → IsUnchanged old first) → Survives old first (λ _. ⊥) → begun ≡ record first { in_transaction = true } → Survives begun mid (λ _. ⊥)
-    → ((limit : Option ℕ) (db : Database) → H limit db → K limit db) → (HasCleanDisk mid → IsStopped H begun mid) → Survives mid last (λ _. ⊥) → HasCleanDisk last → IsStopped K old last
-stopped_after_all H K old first begun mid last same zero begins one f it two clean =
-    let dropped = dropped_by first begun begins mid last (λ _ _. ⊥) one two in
-    let early : HasCleanDisk first = omega (arith, dropped.clean, clean) in
-    unchanged_before H K old first last (same early) zero early dropped.counts f (stopped_within H first begun mid last begins it two clean)

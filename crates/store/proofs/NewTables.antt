@@ -1,18 +1,10 @@
 -- The tables that were made stand for the empty office.
-use Rattle.std.proofs.Common.{◌≡◌, ◌≢◌, ◌⊎◌, ◌+◌, ◌<◌, ◌≤◌, ◌++◌, ℕ, List, [], ◌∷◌, length, get_or, take, inl, inr, map, refl, sym, ap, subst, ◌∙◌, arith}
-use Rattle.store.proofs.Common.{take_more, take_all, Database, Schema, AnyTable, Seen, Trees, Value, Has, all_has, has_either, has_got, rows_in, State, empty, Table, Edition, Supervisor, Place, Lists, rules_of, table_at, Stands, Creates, Adds, HasStepped, MayRecoverTo, Stays, listed_once, stands_apart, stands_beside, stays_none, stays_stepped, decide_table, latest, number_of, all_tables, rolls, values, AreRuled, Brings, MakesTables, StandsFor, HasNone, Opens, numbered}
+use Rattle.store.proofs.Common.{Database, Schema, AnyTable, Seen, Trees, Value, Has, all_has, has_either, has_got, rows_in, State, empty, Table, Edition, Supervisor, Place, Lists, rules_of, table_at, Stands, Creates, Adds, MayRecoverTo, listed_once, stands_apart, stands_beside, decide_table, latest, number_of, all_tables, rolls, values, AreRuled, Brings, MakesTables, StandsFor, HasNone, Opens, numbered, ◌≡◌, ◌≢◌, ◌⊎◌, ◌++◌, List, [], ◌∷◌, inl, inr, map, refl, sym, ap, subst, ◌∙◌, arith, New, each_of, making, key_in, enters, stays_entered, did_all, creating, latest_number}
 use Rattle.store.specs.Tables.{AreRuledAmong, LeavesTables}
-use Rattle.store.specs.Inside.Tables.{Empties}
+use Rattle.store.specs.Inside.Saving.{Empties}
 use Rattle.store.proofs.Among.{apart_edition, stands_among}
-use Rattle.tables.specs.declared.statements.Entering.TheVariants.{New}
-use Rattle.tables.specs.Outcomes.{each_of, making}
-use Rattle.row_model.specs.Rows.{key_in}
 use Rattle.tables.proofs.Founding.{IsFounding, founded, founding}
-use Rattle.tables.proofs.Made.{enters}
-use Rattle.tables.proofs.Ours.{stays_entered}
 use Rattle.store.specs.Available.{FoundsOurs}
-use Rattle.tables.proofs.Outcomes.{did_all}
-use Rattle.store.specs.Causes.{creating, latest_number}
 
 -- the empty office has no rows
 no_rows : (table : Table) → rows_in empty table ≡ []

@@ -1,6 +1,5 @@
 -- Rows in another order.
-use Rattle.std.proofs.Common.{◌≡◌, inl, inr, List, [], ◌∷◌, map, refl, ap, subst₂, ◌∙◌, pos, length, arith}
-use Rattle.store.proofs.Common.{IsPermutation, IsPermutation-map, length_permutation, along_permutation, map_back, Value, Has, Cell, Text, Number, Bytes, Cells, value_of, values}
+use Rattle.store.proofs.Common.{IsPermutation, IsPermutation-map, length_permutation, along_permutation, map_back, Value, Has, Cell, Text, Number, Bytes, Cells, value_of, values, ◌≡◌, inl, inr, List, [], ◌∷◌, map, refl, ap, subst₂, ◌∙◌, pos, length, arith}
 use Rattle.sqlite.specs.declared.types.Value.TheVariants as value
 
 module _ {X : Type 0} where

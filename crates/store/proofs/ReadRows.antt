@@ -1,6 +1,5 @@
 -- What was read from the tables says whether they stand for a fit office.
-use Rattle.std.proofs.Common.{◌≡◌, ◌≢◌, ℕ, List, [], ◌∷◌, map, drop, refl, sym, ap, subst, nat_lt, ◌^◌, true, IsTrue, length, arith, inl, inr, pos, get_or, ◌∙◌}
-use Rattle.store.proofs.Common.{IsPermutation, IsPermutation-trans, IsPermutation-sym, length_permutation, Has, Values, column, Value, Int, Database, Seen, IsLive, Place, Lists, table_at, Stands, Shows, low_tree, State, Table, Edition, AllRows, RowOf, of_table, AnEdition, AreRowsIn, rows_in_edition, number_of, rolls_of, IsAmong, values, HoldIn, StandsIn, numbered, AreAllListed, IsUnfitIn, HoldsColumns, HoldsNoRow, IsPermutation-same}
+use Rattle.store.proofs.Common.{IsPermutation, IsPermutation-trans, IsPermutation-sym, length_permutation, Has, Values, column, Value, Int, Database, Seen, IsLive, Place, Lists, table_at, Stands, Shows, low_tree, State, Table, Edition, AllRows, RowOf, of_table, AnEdition, AreRowsIn, rows_in_edition, number_of, rolls_of, IsAmong, values, HoldIn, StandsIn, numbered, AreAllListed, IsUnfitIn, HoldsColumns, HoldsNoRow, IsPermutation-same, ◌≡◌, ◌≢◌, ℕ, List, [], ◌∷◌, map, drop, refl, sym, ap, subst, nat_lt, ◌^◌, true, IsTrue, length, arith, inl, inr, pos, get_or, ◌∙◌}
 use Rattle.store.proofs.Among.{among_or_not}
 use Rattle.store.proofs.Permutation.{has_permuted, rows_permuted}
 use Rattle.store.proofs.Fitness.{fit_rows, one_of_all}

@@ -1,6 +1,5 @@
 -- Tables that hold rows, seen anew: under another number, in another database, in another order.
-use Rattle.std.proofs.Common.{ℕ, List, map}
-use Rattle.store.proofs.Common.{IsPermutation-map, IsPermutation-sym, IsPermutation-trans, Database, State, Table, Edition, AllRows, SameRows, table_at, Stands, latest, IsAmong, values, StandsFor, StandsIn, TablesOf, numbered}
+use Rattle.store.proofs.Common.{IsPermutation-map, IsPermutation-sym, IsPermutation-trans, Database, State, Table, Edition, AllRows, SameRows, table_at, Stands, latest, IsAmong, values, StandsFor, StandsIn, TablesOf, numbered, ℕ, List, map}
 use Rattle.store.proofs.Permutation.{none_permuted}
 
 -- the same places, where each table stands in another database

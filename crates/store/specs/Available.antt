@@ -1,8 +1,6 @@
 -- Tables that take each valid change.
 use Rattle.std.specs.Prelude.{◌≡◌, ◌≤◌, ◌^◌, List, [], length}
-use Rattle.sqlite.specs.Effect.{Database, IsDatabase}
-use Rattle.row_model.specs.declared.row.Change.{Change}
-use Rattle.row_model.specs.Rows.{AllRows}
+use Rattle.store.specs.Common.{Database, IsDatabase, Change, AllRows}
 use Rattle.change_laws.specs.Allowed.{AreAllowed}
 use Rattle.tables.specs.Ours.{HasRoom, IsOurs}
 use Rattle.store.specs.Tables.{HasNone, TablesHold}

@@ -1,25 +1,14 @@
 -- What the calls of the store come to, and why the tables are not made, read or changed, for another cause than running out of memory.
-use Rattle.std.specs.Prelude.{◌⊎◌, ℕ, List, [], ◌∷◌, Option}
-use Rattle.sqlite.specs.Effect.{Database}
-use Rattle.sqlite_rules.specs.Lists.{Has}
-use Rattle.row_model.specs.declared.cell.Cell.TheVariants.{Number}
-use Rattle.row_model.specs.declared.row.Change.{Change}
-use Rattle.row_model.specs.declared.row.Change.TheVariants.{Add, Put, Remove}
-use Rattle.row_model.specs.declared.table.Table.{Table}
-use Rattle.row_model.specs.declared.table.Table.TheVariants.{Edition}
-use Rattle.row_model.specs.Rows.{Cells, IsPart, IsRow, RowOf}
+use Rattle.std.specs.Prelude.{◌⊎◌, ◌∷◌, ℕ, List, [], Option}
+use Rattle.store.specs.Common.{Database, Has, Number, Change, Add, Put, Remove, Table, EditionTable as Edition, Cells, IsPart, IsRow, RowOf, table_at, IsUnread, Outcome, each_of, entry, followed_by, leaving, making, of_known, Edition as AnEdition, State, AreRowsIn, migrating_changes}
 use Rattle.tables.specs.declared.statements.Entering.TheVariants.{InPlace, New}
-use Rattle.tables.specs.Table.{table_at}
-use Rattle.tables.specs.Causes.{IsUnread}
-use Rattle.tables.specs.Outcomes.{Outcome, each_of, entry, followed_by, leaving, making, of_known}
-use Rattle.editions.specs.declared.Edition.{Edition as AnEdition}
+use Rattle.store.specs.declared.transaction.Task.{Task}
+use Rattle.store.specs.declared.transaction.Task.TheVariants.{Create, Migrate, Save}
 use Rattle.store.specs.Editions.{IsEarlier, beyond, latest, number_of, migrated, rolls_of}
 use Rattle.store.specs.Reading.{AreAllListed}
 use Rattle.store.specs.Rows.{all_tables}
 use Rattle.store.specs.Saving.{AreActedOnAmong}
 use Rattle.store.specs.Tables.{HasNone, StandsIn}
-use Rattle.rolls.specs.State.{State}
-use Rattle.editions.specs.Editions.{AreRowsIn, migrating_changes}
 
 -- a change is made: a row comes into its table, or the rows of a part go
 abbrev pub applying : Change → Outcome
@@ -35,13 +24,15 @@ latest_number = Number 1 ∷ Number (number_of latest) ∷ []
 abbrev pub creating : Outcome
 creating = followed_by (each_of making all_tables) (entry New Edition latest_number)
 
--- the tables that an edition lacks are made, and then changes
-abbrev pub adding_tables : AnEdition → List Change → Outcome
-adding_tables e changes = followed_by (each_of making (beyond e)) (each_of applying changes)
-
--- the number of the latest edition comes first
+-- the number of the latest edition comes first, then the tables that an edition lacks are made, and then changes
 abbrev pub migrating : AnEdition → List Change → Outcome
-migrating e changes = followed_by (entry InPlace Edition latest_number) (adding_tables e changes)
+migrating e changes = followed_by (entry InPlace Edition latest_number) (followed_by (each_of making (beyond e)) (each_of applying changes))
+
+-- what a transaction comes to that is for this, with these changes
+abbrev pub task_of : Task → List Change → Outcome
+task_of Create changes = creating
+task_of (Migrate e) changes = migrating e changes
+task_of Save changes = each_of applying changes
 
 -- one of the changes is refused, once those before it are made
 abbrev pub IsHinderedAmong : List Change → Option ℕ → Database → Type 0

@@ -1,12 +1,6 @@
 -- What the trees of a database say of the office that its tables stand for, and what tables that are made here take.
 use Rattle.std.specs.Prelude.{◌≡◌, List, None}
-use Rattle.sqlite.specs.Effect.{Database, IsDatabase}
-use Rattle.rolls.specs.State.{State}
-use Rattle.rolls.specs.Fit.{IsFit}
-use Rattle.editions.specs.declared.Edition.{Edition}
-use Rattle.row_model.specs.declared.row.Change.{Change}
-use Rattle.row_model.specs.Rows.{AllRows}
-use Rattle.row_model.specs.Changes.{AreFresh}
+use Rattle.store.specs.Common.{Database, IsDatabase, State, IsFit, Edition, Change, AllRows, AreFresh}
 use Rattle.store.specs.Available.{AreFew, AreReady}
 use Rattle.store.specs.Causes.{IsHinderedAmong}
 use Rattle.store.specs.Tables.{Opens, StandsIn, TablesHold}

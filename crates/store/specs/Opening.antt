@@ -1,11 +1,6 @@
 -- What opening the tables of a database comes to.
 use Rattle.std.specs.Prelude.{◌≡◌, IsTrue, false}
-use Rattle.sqlite.specs.Held.{Held, state}
-use Rattle.sqlite.specs.State.{HasCleanDisk, Survives}
-use Rattle.sqlite_trees.specs.declared.store.Store.{Ghosts}
-use Rattle.rolls.specs.State.{State}
-use Rattle.tables.specs.Causes.{IsStopped}
-use Rattle.tables.specs.Steps.{IsKept, MayRecoverTo}
+use Rattle.store.specs.Common.{Held, state, HasCleanDisk, Survives, State, IsStopped, IsKept, MayRecoverTo, Ghosts}
 use Rattle.store.specs.Causes.{IsHinderedOpening}
 use Rattle.store.specs.Reading.{IsDamaged}
 use Rattle.store.specs.Tables.{Brings, HasNone, LeavesAlone, LeavesTables, Opens}

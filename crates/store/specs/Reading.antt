@@ -1,16 +1,9 @@
 -- What the rows that are read from the tables say.
 use Rattle.std.specs.Prelude.{◌≢◌, List}
-use Rattle.sqlite.specs.Effect.{Database}
-use Rattle.rolls.specs.State.{State}
-use Rattle.rolls.specs.Fit.{IsFit}
-use Rattle.row_model.specs.declared.table.Table.{Table}
-use Rattle.row_model.specs.declared.table.Table.TheVariants.{Edition}
-use Rattle.editions.specs.declared.Edition.{Edition as AnEdition}
+use Rattle.store.specs.Common.{Database, State, IsFit, Table, EditionTable as Edition, Edition as AnEdition, Schema, Place, Lists, table_at}
 use Rattle.store.specs.Editions.{beyond, rolls_of}
 use Rattle.store.specs.Rows.{IsAmong}
-use Rattle.sqlite.specs.Schema.{Schema}
-use Rattle.tables.specs.Table.{Place, Lists, table_at}
-use Rattle.store.specs.Tables.{HasNoneOf, StandsFor, StandsIn}
+use Rattle.store.specs.Tables.{HasNoneOf, StandsIn}
 
 -- the edition's table and these are listed with their columns and rules, each in a tree of its own
 pub record AreAllListed (tables : List Table) (schema : Schema) : Type 0 where
@@ -32,7 +25,3 @@ IsUnfitIn e db = (office : State) → IsFit office → StandsIn e db office → 
 -- nor in any
 abbrev pub IsDamaged : Database → Type 0
 IsDamaged db = (e : AnEdition) → IsUnfitIn e db
-
--- the tables stand for no fit office in the latest edition
-abbrev pub IsUnfit : Database → Type 0
-IsUnfit db = (office : State) → IsFit office → StandsFor db office → ⊥

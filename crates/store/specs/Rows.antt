@@ -1,7 +1,5 @@
 -- The rows of the tables as SQL has them.
-use Rattle.std.specs.Prelude.{List, drop}
-use Rattle.sqlite_rules.specs.Lists.{Has}
-use Rattle.row_model.specs.declared.table.Table.{Table}
+use Rattle.store.specs.Common.{List, drop, Has, Table}
 pub use Rattle.row_model.specs.Rows.{all_tables}
 pub use Rattle.tables.specs.Table.{value_of, values}
 

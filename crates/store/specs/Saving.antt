@@ -1,21 +1,8 @@
 -- What saving changes does to the tables.
-use Rattle.std.specs.Prelude.{◌≡◌, ◌≢◌, ⊤, List}
-use Rattle.std.specs.List.{AllByRecursion}
-use Rattle.sqlite.specs.Schema.{Schema}
-use Rattle.sqlite.specs.Table.{Table as AnyTable}
-use Rattle.sqlite_rules.specs.Lists.{Has}
-use Rattle.row_model.specs.declared.table.Table.{Table}
-use Rattle.sqlite.specs.Effect.{Database}
-use Rattle.sqlite.specs.State.{State as Seen}
-use Rattle.row_model.specs.declared.row.Change.{Change}
-use Rattle.row_model.specs.declared.row.Change.TheVariants.{Add}
-use Rattle.row_model.specs.Rows.{AllRows}
-use Rattle.row_model.specs.Changes.{after_changes, changed}
-use Rattle.tables.specs.Table.{Place, Lists, table_at}
+use Rattle.std.specs.Prelude.{◌≡◌, ◌≢◌, IsTrue, Err, OnErr, Result, false, ⊤, List}
+use Rattle.store.specs.Common.{HasCleanDisk, Survives, Held, state, IsKept, AllByRecursion, Schema, AnyTable, Has, Table, Database, Seen, Change, Add, AllRows, after_changes, changed, Place, Lists, table_at, IsActedOn, HasSaved, Trees, Ghosts, StoreFault, Storage}
 use Rattle.store.specs.Rows.{IsAmong, IsRollTable, rolls}
 use Rattle.tables.specs.Writes.{IsInert}
-use Rattle.tables.specs.Inert.{IsActedOn}
-use Rattle.tables.specs.Steps.{HasSaved}
 use Rattle.store.specs.Tables.{LeavesAlone, TablesHold}
 use Rattle.store.specs.Available.{StaysOurs}
 
@@ -77,3 +64,11 @@ pub record IsSaving (changes : List Change) (old new : Seen) : Type 0 where
   pub others : LeavesOthers old.now new.now
   pub ours : StaysOurs changes old.now new.now
   pub alone : LeavesAlone new
+
+-- What a call over the tables keeps: with a fault nothing has changed, no transaction is left open, and one that is open already is a
+-- fault of the storage. A crash at any moment leaves what it could leave before, or this.
+pub record IsSafe {S : Type 0} {A : Type 0} (ghosts : Ghosts S) (leaves : Trees → Type 0) (result : Result A StoreFault) (old new : Held S) : Type 0 where
+  pub kept : HasCleanDisk (state ghosts new) → OnErr result (IsKept (state ghosts old) (state ghosts new))
+  pub ended : old.in_transaction ≡ false → new.in_transaction ≡ false
+  pub begun : IsTrue old.in_transaction → result ≡ Err Storage
+  pub crash : Survives (state ghosts old) (state ghosts new) leaves

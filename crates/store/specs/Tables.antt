@@ -1,25 +1,7 @@
 -- When the tables of a database hold the rows of an office.
-use Rattle.std.specs.Prelude.{◌≡◌, ◌≢◌, ◌⊎◌, ℕ, pos, false, List, [], ◌∷◌, map}
-use Rattle.sqlite.specs.declared.types.Value.TheVariants.{Int}
-use Rattle.sqlite.specs.Order.{Row as Values}
-use Rattle.sqlite.specs.Schema.{Schema}
-use Rattle.sqlite.specs.Table.{Table as AnyTable}
+use Rattle.std.specs.Prelude.{◌≡◌, ◌≢◌, ◌⊎◌, ◌∷◌, ℕ, pos, false, List, [], map}
+use Rattle.store.specs.Common.{Int, Values, Schema, AnyTable, Database, Seen, Has, rows_in, State, empty, AllRows, Table, EditionTable, Place, Lists, made_here, rules_of, shape_of, table_at, IsActedOn, Stands, is_there, Edition, Allows, rows_in_edition, IsFit}
 use Rattle.sqlite.specs.Tree.{Trees}
-use Rattle.sqlite.specs.Effect.{Database, IsDatabase}
-use Rattle.sqlite.specs.State.{State as Seen}
-use Rattle.sqlite_rules.specs.Lists.{Has}
-use Rattle.rolls.specs.Rows.{rows_in}
-use Rattle.rolls.specs.State.{State, empty}
-use Rattle.row_model.specs.Rows.{AllRows}
-use Rattle.row_model.specs.declared.table.Table.{Table}
-use Rattle.row_model.specs.declared.table.Table.TheVariants.{Edition as EditionTable}
-use Rattle.tables.specs.Table.{Place, Lists, made_here, rules_of, shape_of, table_at}
-use Rattle.tables.specs.Inert.{IsActedOn}
-use Rattle.tables.specs.Keyed.{Stands}
-use Rattle.tables.specs.Layout.{is_there}
-use Rattle.editions.specs.declared.Edition.{Edition}
-use Rattle.editions.specs.Editions.{Allows, rows_in_edition}
-use Rattle.rolls.specs.Fit.{IsFit}
 use Rattle.store.specs.Editions.{IsEarlier, beyond, latest, number_of, rolls_of}
 use Rattle.store.specs.Rows.{IsAmong, all_tables, values}
 

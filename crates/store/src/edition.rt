@@ -1,14 +1,14 @@
 //! The editions of the tables, as tables.
 
-ghost use Rattle.std.specs.Prelude.{◌≡◌, ◌<◌};
+ghost use Rattle.std.specs.Prelude.{◌≡◌, ◌<◌, IsTrue, false};
 ghost use Rattle.store.specs.Editions.{beyond, number_of, rolls_of};
-ghost use Rattle.store.specs.Tables.{HasNoneOf};
+ghost use Rattle.store.specs.Tables.{HasNone, HasNoneOf};
 
 use crate::all_tables::TABLES;
-use crate::creating::has_none_of;
 use editions::Edition;
 use sqlite_schema::schema::Schema;
 use tables::Table;
+use tables::layout::has_table;
 
 /// The edition in which tables are made.
 pub const LATEST: Edition = Edition::Third;
@@ -45,6 +45,27 @@ pub fn beyond(edition: Edition) -> &'static [Table]
         Edition::Second => &TABLES[9..],
         Edition::Third => &[],
     }
+}
+
+/// Whether none of these tables is there.
+pub fn has_none_of(schema: &Schema, tables: &[Table]) -> bool
+    ensures right { IsTrue result → HasNoneOf tables.now schema.now }
+    ensures wrong { result ≡ false → HasNoneOf tables.now schema.now → ⊥ }
+{
+    for table in tables {
+        if has_table(schema, *table) {
+            return false;
+        }
+    }
+    true
+}
+
+/// Whether none of the tables is there.
+pub fn has_none(schema: &Schema) -> bool
+    ensures right { IsTrue result → HasNone schema.now }
+    ensures wrong { result ≡ false → HasNone schema.now → ⊥ }
+{
+    has_none_of(schema, &TABLES)
 }
 
 /// Returns the edition of the tables that are there: the earliest beyond which none is.

@@ -3,8 +3,8 @@
 //! A `Store` is a database whose tables hold the rows of an office. It decides nothing of the office, and
 //! has no SQL: `office` judges rows, and `tables` has the statements.
 //!
-//! Promised: `open` and `load` give the office that the tables stand for, or call them damaged where they
-//! stand for none; a database with none of the tables gets them in one transaction; `save` makes changes in
+//! Promised: `open` gives the office that the tables stand for, or calls them damaged where they stand for
+//! none; a database with none of the tables gets them in one transaction; `save` makes changes in
 //! one transaction, and touches only the rows that they name; after a fault everything is as before; and each
 //! says what a crash leaves, which opens as the office that its tables stand for (`opening_law`). Other tables
 //! are left alone. `has_none` says whether a database is new. Begin with `specs/Tables.antt`, then `store.rt`.
@@ -14,18 +14,16 @@
 #![tactic(auto)]
 
 mod all_tables;
-mod creating;
 mod edition;
 mod fault;
 mod laws;
-mod migrating;
 mod quiet;
 mod reading;
 mod rows;
-mod saving;
 mod store;
+mod transaction;
 
-pub use creating::has_none;
+pub use edition::has_none;
 pub use fault::StoreFault;
 pub use laws::{available_law, opening_law};
 pub use store::Store;

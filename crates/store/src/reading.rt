@@ -1,23 +1,12 @@
 //! Reading the office from its tables.
 
 ghost use Rattle.std.specs.Prelude.{◌≡◌, ◌≢◌, IsTrue, false, pos, IfErr, IfOk, IfSome, OnOk, Err, None, List, map, drop};
-ghost use Rattle.sqlite.specs.declared.types.Value.TheVariants.{Int};
-ghost use Rattle.sqlite.specs.Order.{column};
-ghost use Rattle.sqlite.specs.State.{HasCleanDisk, IsUnchanged, Survives};
-ghost use Rattle.sqlite.specs.Held.{state};
-ghost use Rattle.tables.specs.Causes.{IsCaused, IsUnread};
-ghost use Rattle.tables.specs.Table.{table_at};
+ghost use Rattle.store.specs.Common.{Int, column, HasCleanDisk, state, IsReading, IsUnread, table_at, State, IsFit, AreRowsOf, IsListed};
 ghost use Rattle.store.specs.Causes.{IsHinderedReading};
-ghost use Rattle.store.specs.Inside.Causes.{IsHinderedReadingIn};
-ghost use Rattle.tables.specs.Steps.{Rests};
-ghost use Rattle.rolls.specs.State.{State};
-ghost use Rattle.rolls.specs.Fit.{IsFit};
-ghost use Rattle.rolls.specs.Rows.{AreRowsOf};
+ghost use Rattle.store.specs.Inside.Reading.{IsHinderedReadingIn, IsAlone, IsElsewhere, IsListedAlone, ReadsTable, FindsOffice, HoldsNoRow, HoldsRows, ReadsAll, HoldsUnread};
 ghost use Rattle.store.specs.Editions.{number_of, rolls_of};
 ghost use Rattle.store.specs.Tables.{numbered};
-ghost use Rattle.tables.specs.Layout.{IsListed};
 ghost use Rattle.store.specs.Reading.{AreAllListed, IsUnfitIn};
-ghost use Rattle.store.specs.Inside.Reading.{IsAlone, IsElsewhere, IsListedAlone, ReadsTable, FindsOffice, HoldsNoRow, HoldsRows, ReadsAll, HoldsUnread};
 
 use crate::edition::{number_of, rolls_of};
 use crate::fault::StoreFault;
@@ -138,10 +127,7 @@ fn read_table<S: Alter>(
         → IfOk result (λ rows. ReadsTable table rows.items (state S.Store conn.old) (state S.Store conn.new)) }
     ensures damaged { HasCleanDisk (state S.Store conn.new) → result ≡ Err StoreFault.Damaged → IsTrue (state S.Store conn.old).is_open
         × HoldsNoRow table (state S.Store conn.old).now }
-    ensures rests { HasCleanDisk (state S.Store conn.new) → Rests (state S.Store conn.old) (state S.Store conn.new) }
-    ensures cause { IsCaused StoreFault.Storage (IsUnread (table_at table)) result (state S.Store conn.old) (state S.Store conn.new) }
-    ensures mode { conn.old.in_transaction ≡ false → conn.new.in_transaction ≡ false }
-    ensures survives { Survives (state S.Store conn.old) (state S.Store conn.new) (λ _. ⊥) }
+    ensures reads { IsReading StoreFault.Storage (IsUnread (table_at table)) result (state S.Store conn.old) (state S.Store conn.new) }
 {
     let cells = read(conn, table)?;
     rows_with(alloc, table, cells.as_slice())
@@ -157,10 +143,7 @@ fn read_rows<S: Alter>(
         → IfOk result (λ rows. ReadsAll (rolls_of edition) rows.items (state S.Store conn.old) (state S.Store conn.new)) }
     ensures damaged { HasCleanDisk (state S.Store conn.new) → result ≡ Err StoreFault.Damaged
         → HoldsUnread (rolls_of edition) (state S.Store conn.old) }
-    ensures rests { HasCleanDisk (state S.Store conn.new) → Rests (state S.Store conn.old) (state S.Store conn.new) }
-    ensures cause { IsCaused StoreFault.Storage (IsHinderedReadingIn edition) result (state S.Store conn.old) (state S.Store conn.new) }
-    ensures mode { conn.old.in_transaction ≡ false → conn.new.in_transaction ≡ false }
-    ensures survives { Survives (state S.Store conn.old) (state S.Store conn.new) (λ _. ⊥) }
+    ensures reads { IsReading StoreFault.Storage (IsHinderedReadingIn edition) result (state S.Store conn.old) (state S.Store conn.new) }
 {
     let tables = rolls_of(edition);
     let mut rows = Vec::new(alloc);
@@ -182,10 +165,7 @@ fn rows_in<S: Alter>(
     ensures unlisted { (AreAllListed (rolls_of edition) (state S.Store conn.old).now.schema → ⊥) → result ≡ Err StoreFault.Damaged }
     ensures damaged { HasCleanDisk (state S.Store conn.new) → result ≡ Err StoreFault.Damaged
         → IsUnfitIn edition (state S.Store conn.old).now }
-    ensures rests { HasCleanDisk (state S.Store conn.new) → Rests (state S.Store conn.old) (state S.Store conn.new) }
-    ensures cause { IsCaused StoreFault.Storage IsHinderedReading result (state S.Store conn.old) (state S.Store conn.new) }
-    ensures mode { conn.old.in_transaction ≡ false → conn.new.in_transaction ≡ false }
-    ensures survives { Survives (state S.Store conn.old) (state S.Store conn.new) (λ _. ⊥) }
+    ensures reads { IsReading StoreFault.Storage IsHinderedReading result (state S.Store conn.old) (state S.Store conn.new) }
 {
     // Before anything is read: of a table that is listed otherwise no reading says which rows it has.
     if !are_all_listed(conn.schema(), rolls_of(edition)) {
@@ -214,14 +194,10 @@ pub fn office_in<S: Alter>(
 ) -> Result<(Office, Vec<Change>), StoreFault>
     ensures ok { HasCleanDisk (state S.Store conn.new)
         → IfOk result (λ it. FindsOffice edition it.0 it.1.items (state S.Store conn.old) (state S.Store conn.new)) }
-    ensures same { HasCleanDisk (state S.Store conn.new) → OnOk result (IsUnchanged (state S.Store conn.old) (state S.Store conn.new)) }
     ensures unlisted { (AreAllListed (rolls_of edition) (state S.Store conn.old).now.schema → ⊥) → result ≡ Err StoreFault.Damaged }
     ensures damaged { HasCleanDisk (state S.Store conn.new) → result ≡ Err StoreFault.Damaged
         → IsUnfitIn edition (state S.Store conn.old).now }
-    ensures rests { HasCleanDisk (state S.Store conn.new) → Rests (state S.Store conn.old) (state S.Store conn.new) }
-    ensures cause { IsCaused StoreFault.Storage IsHinderedReading result (state S.Store conn.old) (state S.Store conn.new) }
-    ensures mode { conn.old.in_transaction ≡ false → conn.new.in_transaction ≡ false }
-    ensures survives { Survives (state S.Store conn.old) (state S.Store conn.new) (λ _. ⊥) }
+    ensures reads { IsReading StoreFault.Storage IsHinderedReading result (state S.Store conn.old) (state S.Store conn.new) }
 {
     migrated_rows_law();
     migrating_changes_law();

@@ -1,10 +1,7 @@
 //! Rows as they are read: by the kinds of the columns.
 
 ghost use Rattle.std.specs.Prelude.{◌≡◌, ◌≢◌, true, IfOk, drop};
-ghost use Rattle.sqlite.specs.Order.{Row as Values, column};
-ghost use Rattle.sqlite_rules.specs.Lists.{Has};
-ghost use Rattle.row_model.specs.declared.cell.Cell.{Cell as AnyCell};
-ghost use Rattle.row_model.specs.Rows.{is_of};
+ghost use Rattle.store.specs.Common.{Values, column, Has, AnyCell, is_of};
 ghost use Rattle.store.specs.Rows.{value_of};
 ghost use Rattle.store.specs.Inside.Reading.{AreReadRows, IsNoRow, IsRowWith, IsTyped};
 

@@ -1,25 +1,21 @@
 //! The store.
 
 ghost use Rattle.std.specs.Prelude.{◌≡◌, ◌≢◌, IsTrue, false, Err, IfOk, IfErr, IsErr, OnOk, OnErr};
-ghost use Rattle.sqlite.specs.State.{HasCleanDisk, IsLive, Survives};
-ghost use Rattle.sqlite.specs.Held.{state};
-ghost use Rattle.tables.specs.Steps.{IsKept, MayRecoverTo};
-ghost use Rattle.tables.specs.Causes.{IsCaused};
-ghost use Rattle.store.specs.Causes.{IsHinderedReading, IsHinderedAmong};
+ghost use Rattle.store.specs.Common.{HasCleanDisk, IsLive, Survives, state, IsKept, MayRecoverTo, IsCaused};
+ghost use Rattle.store.specs.Causes.{IsHinderedAmong};
 ghost use Rattle.store.specs.Editions.{IsEarlier, latest};
-ghost use Rattle.store.specs.Inside.Editions.{IsEditionOf};
-ghost use Rattle.store.specs.Tables.{HasNone, StandsFor};
+ghost use Rattle.store.specs.Inside.Reading.{IsEditionOf};
+ghost use Rattle.store.specs.Tables.{HasNone};
 ghost use Rattle.store.specs.Opening.{IsOpening, IsLeftUnopened};
-ghost use Rattle.store.specs.Reading.{AreListed, IsUnfit};
-ghost use Rattle.store.specs.Saving.{AreActedOn, IsSaving, Saves};
+ghost use Rattle.store.specs.Reading.{AreListed};
+ghost use Rattle.store.specs.Saving.{AreActedOn, IsSafe, IsSaving, Saves};
 
-use crate::creating::{create_tables, has_none};
-use crate::edition::{LATEST, edition_of};
+use crate::all_tables::MIGRATED;
+use crate::edition::{LATEST, edition_of, has_none};
 use crate::fault::StoreFault;
-use crate::migrating::migrate;
-use crate::quiet::are_left;
+use crate::quiet::{are_left, are_left_among};
 use crate::reading::office_in;
-use crate::saving::save_all;
+use crate::transaction::{Task, transact};
 use editions::Edition;
 use office::Office;
 use rolls::Change;
@@ -57,7 +53,7 @@ fn open_new<S: Alter>(alloc: Global, conn: &mut Connection<S>) -> Result<Office,
     ensures unopened { IfErr result (λ fault.
         IsLeftUnopened S.Store (fault ≡ StoreFault.Storage) (fault ≡ StoreFault.Damaged) conn.old conn.new) }
 {
-    create_tables(conn)?;
+    transact(conn, Task::Create, &[])?;
     Ok(Office::new(alloc))
 }
 
@@ -92,7 +88,11 @@ fn open_earlier<S: Alter>(
     ensures unlisted { (AreListed (state S.Store conn.old).now.schema → ⊥) → result ≡ Err StoreFault.Damaged }
 {
     let (migrated, changes) = office_in(alloc, conn, edition)?;
-    migrate(conn, edition, &changes)?;
+    // New tables are not asked about: rows are only added to them, and an INSERT makes no foreign key act.
+    if !are_left_among(conn.schema(), &MIGRATED) {
+        return Err(StoreFault::Storage);
+    }
+    transact(conn, Task::Migrate(edition), &changes)?;
     Ok(migrated)
 }
 
@@ -145,35 +145,11 @@ impl<S: Alter> Store<S> {
         }
     }
 
-    /// Reads the office from its tables.
-    pub fn load(&mut self) -> Result<Office, StoreFault>
-        ensures ok { HasCleanDisk (state S.Store self.new) → IfOk result (StandsFor (state S.Store self.old).now) }
-        ensures unlisted { self.old.in_transaction ≡ false → (AreListed (state S.Store self.old).now.schema → ⊥)
-            → result ≡ Err StoreFault.Damaged }
-        ensures damaged { HasCleanDisk (state S.Store self.new) → result ≡ Err StoreFault.Damaged → IsUnfit (state S.Store self.old).now }
-        ensures kept { HasCleanDisk (state S.Store self.new) → IsKept (state S.Store self.old) (state S.Store self.new) }
-        ensures cause { self.old.in_transaction ≡ false
-            → IsCaused StoreFault.Storage IsHinderedReading result (state S.Store self.old) (state S.Store self.new) }
-
-        // A crash at any moment of the call.
-        ensures crash { Survives (state S.Store self.old) (state S.Store self.new) (λ _. ⊥) }
-        ensures ended { self.old.in_transaction ≡ false → self.new.in_transaction ≡ false }
-
-        // Where a transaction is open already.
-        ensures begun { IsTrue self.old.in_transaction → result ≡ Err StoreFault.Storage }
-    {
-        if !self.conn.is_autocommit() {
-            return Err(StoreFault::Storage);
-        }
-        let (office, _) = office_in(self.alloc, &mut self.conn, LATEST)?;
-        Ok(office)
-    }
-
     /// Makes the changes in one transaction, which touches only the rows that they name.
     pub fn save(&mut self, changes: &[Change]) -> Result<(), StoreFault>
         ensures saved { HasCleanDisk (state S.Store self.new)
             → OnOk result (IsSaving changes.now (state S.Store self.old) (state S.Store self.new)) }
-        ensures err { HasCleanDisk (state S.Store self.new) → OnErr result (IsKept (state S.Store self.old) (state S.Store self.new)) }
+        ensures safe { IsSafe S.Store (MayRecoverTo (Saves changes.now) (state S.Store self.old)) result self.old self.new }
         ensures faults { result ≢ Err StoreFault.Damaged }
 
         // Nothing is saved where a foreign key would write other rows too.
@@ -182,20 +158,12 @@ impl<S: Alter> Store<S> {
         // Why else the storage has failed, but for an open transaction: a shut connection, a fault of the disk, or a refused statement.
         ensures cause { self.old.in_transaction ≡ false → (AreActedOn (state S.Store self.old).now.schema → ⊥)
             → IsCaused StoreFault.Storage (IsHinderedAmong changes.now) result (state S.Store self.old) (state S.Store self.new) }
-
-        // A crash at any moment of the call.
-        ensures crash { Survives (state S.Store self.old) (state S.Store self.new)
-            (MayRecoverTo (Saves changes.now) (state S.Store self.old)) }
-        ensures ended { self.old.in_transaction ≡ false → self.new.in_transaction ≡ false }
-
-        // Where a transaction is open already.
-        ensures begun { IsTrue self.old.in_transaction → result ≡ Err StoreFault.Storage }
     {
         // Asked at each save, and not at the opening: such tables too stand for an office, and only a change would go on to others.
         if !are_left(self.conn.schema()) {
             return Err(StoreFault::Storage);
         }
-        save_all(&mut self.conn, changes)
+        transact(&mut self.conn, Task::Save, changes)
     }
 
     /// An open connection shows a database.

@@ -1,7 +1,5 @@
 -- Two lists that are gone through side by side: as many stand in one as in the other, and each is as the one next to it.
-use Rattle.std.proofs.Common.{◌≡◌, ℕ, zero, suc, ◌<◌, Bool, true, false, List, [], ◌∷◌, length, map, refl, sym, ap, ◌∙◌, arith}
-use Rattle.std.specs.Prelude.{◌&&◌, zip, MatchBool}
-use Rattle.tables.proofs.Common.{AllWithin, HoldsAt, are_told}
+use Rattle.tables.proofs.Common.{AllWithin, HoldsAt, are_told, ◌≡◌, ℕ, zero, suc, ◌<◌, Bool, true, false, List, [], ◌∷◌, length, map, refl, sym, ap, ◌∙◌, arith, zip, ◌&&◌, MatchBool}
 
 module _ {A B C : Type 0} (is : C → B → Bool) (by : A → C) where
   abbrev passes : B × A → Bool

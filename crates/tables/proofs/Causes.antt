@@ -1,9 +1,8 @@
 -- Why a call failed, read off what the database says of its error.
-use Rattle.std.proofs.Common.{◌≡◌, ◌⊎◌, ◌≤◌, inl, inr, ℕ, Bool, true, false, List, Err, MatchBool, Option, sym, ap, subst, ◌∙◌, arith}
 use Rattle.sqlite_disk.specs.Disk.{MoreFaults}
 use Rattle.sqlite_trees.specs.declared.error.StoreError.{StoreError}
 use Rattle.sqlite_trees.specs.declared.error.StoreError.TheVariants.{OutOfMemory, Io, Corrupt, Full, Broken, Unstorable}
-use Rattle.tables.proofs.Common.{Compiled, Error, Row, Database, State, HasCleanDisk, Survives, Fails, HasReason, IsStatement, IsUnchanged, IsRolledBack, RunsCommand, ExecutesInside, shows_rows, store_error, Storage, fault_of, cases_Bool, Moment, at_moment, IsStopped}
+use Rattle.tables.proofs.Common.{Compiled, Error, Row, Database, State, HasCleanDisk, Survives, Fails, HasReason, IsStatement, IsUnchanged, IsRolledBack, RunsCommand, ExecutesInside, shows_rows, store_error, Storage, fault_of, cases_Bool, Moment, at_moment, IsStopped, ◌≡◌, ◌⊎◌, ◌≤◌, inl, inr, ℕ, Bool, true, false, List, Err, MatchBool, Option, sym, ap, subst, ◌∙◌, arith}
 use Rattle.sqlite.specs.State.{IsNotRun, ExecutesIn, EndsScope}
 
 -- the connection was shut, or the disk failed once more, or this

@@ -1,6 +1,5 @@
 -- DELETE of the rows that the given values find.
-use Rattle.std.proofs.Common.{◌≡◌, ℕ, length, List, [], ◌∷◌, slice_get, Option, Some, None, Ok, sym, ap, subst, ◌∙◌, Bool, true}
-use Rattle.tables.proofs.Common.{Schema, Table, Row, Expr, deleted, Program, Delete, Database, Answers, Written, Tally, Does, Mode, edit_of, Applies, Given, ids_of, works, one_step, Kind, Cells, are_of, Place, TableShape, cells, made_at, values}
+use Rattle.tables.proofs.Common.{Schema, Table, Row, Expr, deleted, Program, Delete, Database, Answers, Written, Tally, Does, Mode, edit_of, Applies, Given, ids_of, works, one_step, Kind, Cells, are_of, Place, TableShape, cells, made_at, values, ◌≡◌, ℕ, length, List, [], ◌∷◌, slice_get, Option, Some, None, Ok, sym, ap, subst, ◌∙◌, Bool, true}
 use Rattle.sqlite_ast.specs.declared.Statement.TheVariants as written
 use Rattle.sqlite_sql.specs.Term.{Term, col}
 use Rattle.tables.proofs.InsertKeyed.{went, same_value}

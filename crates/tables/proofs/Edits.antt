@@ -1,29 +1,9 @@
 -- An edit whose rows suit their table is refused for nothing but its rowids and its sizes: they share no key and have their parents, and
 -- whoever refers to a row that goes refers to one that comes.
-use Rattle.std.proofs.Common.{◌≡◌, ◌≢◌, ◌⊎◌, inl, inr, ℕ, Bool, List, ap, length, nat_lt, Option, None, Some, true, false, refl, sym, subst, ◌∙◌}
-use Rattle.std.specs.List.{list_all, list_any}
-use Rattle.std.proofs.lemmas.Bool.{both_ways, cases_eq, ne_eqb, or_cases, or_left, or_right}
-use Rattle.std.proofs.lemmas.Bool.Decides.{Decides-eqb}
-use Rattle.sqlite.specs.Order.{Row}
-use Rattle.sqlite.specs.Table.{Table}
-use Rattle.sqlite.specs.Tree.{Trees, IsAscending, rowid, with_tree}
-use Rattle.sqlite.specs.Edit.{Applies, Edit, IsRefused, IsOversized, are_fresh, edited, have_rowids, id_in, left_by}
-use Rattle.sqlite.specs.Effect.{Database}
-use Rattle.sqlite_sql.specs.Ops.{fits_i64}
-use Rattle.sqlite_schema.specs.declared.schema.Reference.{Reference}
-use Rattle.sqlite_schema.specs.declared.schema.Keys.TheVariants.{Enforced}
-use Rattle.sqlite_schema.specs.declared.schema.Among.TheVariants.{All}
+use Rattle.tables.proofs.Common.{◌≡◌, ◌≢◌, ◌⊎◌, inl, inr, ℕ, Bool, List, ap, length, nat_lt, Option, None, Some, true, false, refl, sym, subst, ◌∙◌, list_all, list_any, both_ways, cases_eq, ne_eqb, or_cases, or_left, or_right, Decides-eqb, Row, Table, Trees, IsAscending, rowid, with_tree, Applies, Edit, IsRefused, IsOversized, are_fresh, edited, have_rowids, id_in, left_by, Database, fits_i64, Reference, Enforced, All, Obeys, ParentKey, Refers, agree, has_null, has_parent, is_held, parent_key, references_fit, Refusal, Has, PassAlone, all_has, some_has, some_from, put_all_adds, put_all_has, put_all_keeps, without_all_has, Turns, origin, refers_from, refers_same, unique_kept, refers_at, IsRefusedIn}
 use Rattle.sqlite_schema.specs.declared.schema.Constraint.TheVariants.{Datatype, NotNull, Check, PrimaryKey, Unique, ForeignKey}
-use Rattle.sqlite_schema.specs.Rules.{Obeys, ParentKey, Refers, agree, has_null, has_parent, is_held, parent_key, references_fit}
-use Rattle.sqlite_rules.specs.declared.error.Refusal.{Refusal}
 use Rattle.sqlite_rules.specs.declared.error.Refusal.TheVariants.{Violates, Mismatch, NoRowid, BadReference, TooDeep}
-use Rattle.sqlite_rules.specs.Lists.{Has}
 use Rattle.sqlite_rules.specs.Keys.{are_unique}
-use Rattle.sqlite_rules.specs.Steps.{PassAlone}
-use Rattle.sqlite_rules.proofs.ListLemmas.{all_has, some_has, some_from}
-use Rattle.sqlite_rules.proofs.TableLemmas.{put_all_adds, put_all_has, put_all_keeps, without_all_has}
-use Rattle.sqlite_rules.proofs.RuleLemmas.{Turns, origin, refers_from, refers_same, unique_kept, refers_at}
-use Rattle.tables.specs.Causes.{IsRefusedIn}
 
 module _ (db : Database) (edit : Edit) where
   abbrev here : List Row

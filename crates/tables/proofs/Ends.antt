@@ -1,6 +1,5 @@
 -- A statement that is refused is refused by the disk, for a shut connection, or for what its text does, where that is a write.
-use Rattle.std.proofs.Common.{◌≡◌, inl, inr, ℕ, ◌≤◌, List, [], length, Option, Some, None, Ok, Err, ◌||◌, false, sym, ap, subst, ◌∙◌, append-nil, refl}
-use Rattle.tables.proofs.Common.{cases_Bool, Error, Row, IsWrite, Command, Begin, Commit, Rollback, Release, RollbackTo, is_query, Does, at_time, understood, State, IsMisplaced, IsStatement, IsNoStatement, RunsAlone, RunsCommand, ExecutesInside, is_pragma, text_of, shows_rows, Compiled, Storage, fault_of, IsStopped, IsHindered, IsText, IsWriteOf, plain_mode}
+use Rattle.tables.proofs.Common.{cases_Bool, Error, Row, IsWrite, Command, Begin, Commit, Rollback, Release, RollbackTo, is_query, Does, at_time, understood, State, IsMisplaced, IsStatement, IsNoStatement, RunsAlone, RunsCommand, ExecutesInside, is_pragma, text_of, shows_rows, Compiled, Storage, fault_of, IsStopped, IsHindered, IsText, IsWriteOf, plain_mode, ◌≡◌, inl, inr, ℕ, ◌≤◌, List, [], length, Option, Some, None, Ok, Err, ◌||◌, false, sym, ap, subst, ◌∙◌, append-nil, refl}
 use Rattle.sqlite.specs.Command.TheVariants.{Select, Rows}
 use Rattle.sqlite.specs.State.{IsNotRun, ExecutesIn, EndsScope}
 use Rattle.tables.proofs.Causes.{Ended, failed, either}

@@ -1,6 +1,5 @@
 -- The texts of a table as statements, and what they are resolved to, by the table's shape alone.
-use Rattle.std.proofs.Common.{ℕ, zero, suc, ◌-◌, Bool, if◌then◌else◌, List, [], ◌∷◌, codes, length, map, take, drop, Option, Some, None, false, true}
-use Rattle.tables.proofs.Common.{Null, Integer, Term, lit, col, op1, Parsed, TableBody, Statement, Rows, Expr, Core, roll-Core, Select, roll-Select, Output, TableShape, laid_out}
+use Rattle.tables.proofs.Common.{Null, Integer, Term, lit, col, op1, Parsed, TableBody, Statement, Rows, Expr, Core, roll-Core, Select, roll-Select, Output, TableShape, laid_out, ℕ, zero, suc, ◌-◌, Bool, if◌then◌else◌, List, [], ◌∷◌, codes, length, map, take, drop, Option, Some, None, false, true}
 use Rattle.sqlite.specs.Kind.{Kind}
 use Rattle.sqlite_sql.specs.declared.ops.UnaryOp.TheVariants.{ToNumeric}
 use Rattle.sqlite_ast.specs.declared.CreateTable.{CreateTable}

@@ -1,14 +1,7 @@
 -- A database in which tables of ours were made, and no other, is one of ours.
-use Rattle.std.proofs.Common.{◌≡◌, ◌⊎◌, inl, inr, ℕ, suc, ◌+◌, ◌<◌, ◌^◌, pos, List, [], ◌∷◌, ◌++◌, slice_get, Some, false, refl, sym, ap, subst, ◌∙◌, arith}
-use Rattle.std.proofs.lemmas.List.Folds.{list_any-append}
-use Rattle.tables.proofs.Common.{AllByRecursion, list_any, and_left, or_from, Int, Row, rowid, IsAscending, Has, has_either, all_has, table_below, created, next_tree, AnyTable, Schema, Database, IsDatabase, Ours, Place, made_here, table_at, IsTableMade}
-use Rattle.sqlite.specs.Tree.{IsTable}
-use Rattle.sqlite_catalog.specs.Change.{KeepsRows, automatics}
-use Rattle.sqlite_catalog.specs.Listing.{IsIndexRow, automatic}
+use Rattle.tables.proofs.Common.{AllByRecursion, list_any, and_left, or_from, Int, Row, rowid, IsAscending, Has, has_either, all_has, table_below, created, next_tree, AnyTable, Schema, Database, IsDatabase, Ours, Place, made_here, table_at, IsTableMade, ◌≡◌, ◌⊎◌, inl, inr, ℕ, suc, ◌+◌, ◌<◌, ◌^◌, pos, List, [], ◌∷◌, ◌++◌, slice_get, Some, false, refl, sym, ap, subst, ◌∙◌, arith, list_any-append, IsTable, KeepsRows, automatics, IsIndexRow, automatic, Index, HasRoom, IsOurs, IsOwnIndex}
 use Rattle.sqlite_catalog.proofs.LayoutLemmas.{index_owner, zipped_left}
 use Rattle.sqlite_catalog.proofs.ListFacts.{ascending_push}
-use Rattle.sqlite_schema.specs.declared.schema.Index.{Index}
-use Rattle.tables.specs.Ours.{HasRoom, IsOurs, IsOwnIndex}
 use Rattle.tables.proofs.Ours.{along}
 use Rattle.tables.proofs.References.{same_named}
 

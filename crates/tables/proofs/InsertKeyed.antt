@@ -1,6 +1,5 @@
 -- What an INSERT of one row does to a table with no rowid of its own.
-use Rattle.std.proofs.Common.{◌≡◌, ◌⊎◌, inl, inr, ℕ, ◌/◌, List, [], ◌∷◌, slice_get, Option, Some, None, Ok, Err, Result, refl, sym, ap, subst, append-nil, ◌∙◌, false, true, Bool, length, ◌&&◌, ◌==◌}
-use Rattle.tables.proofs.Common.{flat_map, filter_map, Schema, Table, Row, Term, Values, Insert, Edit, edit_of, Applies, Chosen, Database, value_rows, Written, Tally, Does, Mode, Reference, ParentKey, parent_key, Deed, works, work_by, deed_for, one_step}
+use Rattle.tables.proofs.Common.{flat_map, filter_map, Schema, Table, Row, Term, Values, Insert, Edit, edit_of, Applies, Chosen, Database, value_rows, Written, Tally, Does, Mode, Reference, ParentKey, parent_key, Deed, works, work_by, deed_for, one_step, ◌≡◌, ◌⊎◌, inl, inr, ℕ, ◌/◌, List, [], ◌∷◌, slice_get, Option, Some, None, Ok, Err, Result, refl, sym, ap, subst, append-nil, ◌∙◌, false, true, Bool, length, ◌&&◌, ◌==◌}
 use Rattle.sqlite_schema.specs.declared.schema.Keys.{Keys}
 use Rattle.tables.proofs.Places.{untimed}
 

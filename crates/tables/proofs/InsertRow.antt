@@ -1,6 +1,5 @@
 -- What an INSERT of one row does to the rows of a table, and what its text means under any schema.
-use Rattle.std.proofs.Common.{◌≡◌, ◌≤◌, ℕ, ℤ, ◌+◌, ◌/◌, length, List, [], ◌∷◌, slice_get, slice_range, Option, Some, None, Ok, refl, sym, ap, subst, ◌∙◌, false, true, Bool, cond}
-use Rattle.tables.proofs.Common.{Value, Null, Int, Bytes, Row, Schema, Table, Term, Integer, Blob, cast, cast_row, id_in, is_int, int_is, value_rows, Insert, Values, text_of, first, small, with_command, on_table, new_rows, table_named, Returning, Parsed, Statement, Rows, Checked, Compiled, IsWrite, accepts_terms, Command, Kind, Cells, are_of, Place, TableShape, Lists, kind_in, laid_out, made_at, sql_values, IsWriteOf}
+use Rattle.tables.proofs.Common.{Value, Null, Int, Bytes, Row, Schema, Table, Term, Integer, Blob, cast, cast_row, id_in, is_int, int_is, value_rows, Insert, Values, text_of, first, small, with_command, on_table, new_rows, table_named, Returning, Parsed, Statement, Rows, Checked, Compiled, IsWrite, accepts_terms, Command, Kind, Cells, are_of, Place, TableShape, Lists, kind_in, laid_out, made_at, sql_values, IsWriteOf, ◌≡◌, ◌≤◌, ℕ, ℤ, ◌+◌, ◌/◌, length, List, [], ◌∷◌, slice_get, slice_range, Option, Some, None, Ok, refl, sym, ap, subst, ◌∙◌, false, true, Bool, cond}
 use Rattle.sqlite.specs.Ops.{unary}
 use Rattle.sqlite.specs.Compile.{compiled, timed, returning, command, planned, meaning, insert, insert_or_abort, shows}
 use Rattle.sqlite.specs.Listing.{understood}

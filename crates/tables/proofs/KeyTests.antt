@@ -1,7 +1,6 @@
 -- The tests of keys.
-use Rattle.std.proofs.Common.{◌≡◌, ℕ, ℤ, List, None, true, false, Bool, Some, Ordering, Less, Equal, Greater, refl, ap, sym, subst, ◌∙◌}
-use Rattle.tables.proofs.Common.{Int, Row, rowid, is_int, equal, is_eq, value_cmp-Int, int_is, id_of, Binary, Expr, op2}
-use Rattle.sqlite_sql.specs.Ops.{binary, is_true, from_truth}
+use Rattle.tables.proofs.Common.{Int, Row, rowid, is_int, equal, is_eq, value_cmp-Int, int_is, id_of, Binary, Expr, op2, ◌≡◌, ℕ, ℤ, List, None, true, false, Bool, Some, Ordering, Less, Equal, Greater, refl, ap, sym, subst, ◌∙◌, is_true, from_truth}
+use Rattle.sqlite_sql.specs.Ops.{binary}
 use Rattle.std.proofs.lemmas.Map.Lookups.{exact_signed}
 use Rattle.sqlite_ast.specs.declared.Expr.TheVariants as expr
 use Rattle.sqlite_ast.specs.declared.Binary.TheVariants as binary

@@ -1,6 +1,5 @@
 -- A table that passes the tests is one of its shape, at its place.
-use Rattle.std.proofs.Common.{◌≡◌, inl, inr, ℕ, Bool, true, false, not, ◌==◌, ◌&&◌, ◌||◌, if◌then◌else◌, List, [], ◌∷◌, length, slice_get, Option, Some, None, map, refl, sym, ap, subst, ◌∙◌, arith}
-use Rattle.tables.proofs.Common.{option_map_or, list_all, bytes_eq, and_parts, cases_Bool, Decides-eqb, map-id, Integer, Real, Text, Blob, Any, Table, Schema, plain, Order, Reference, kind_code, Ours, TableShape, shape_of, table_at, Place, all_referring, kind_in, required, referring, ascending, made_at, is_nothing, is_binary, same_key, are_of_one, are_strict, is_alone, is_bare, is_required, is_referring, are_told, are_plain, is_untimed, has_shape, IsTableNamed, place_of, IsListed}
+use Rattle.tables.proofs.Common.{option_map_or, list_all, bytes_eq, and_parts, cases_Bool, Decides-eqb, map-id, Integer, Real, Text, Blob, Any, Table, Schema, plain, Order, Reference, kind_code, Ours, TableShape, shape_of, table_at, Place, all_referring, kind_in, required, referring, ascending, made_at, is_nothing, is_binary, same_key, are_of_one, are_strict, is_alone, is_bare, is_required, is_referring, are_told, are_plain, is_untimed, has_shape, IsTableNamed, place_of, IsListed, ◌≡◌, inl, inr, ℕ, Bool, true, false, not, ◌==◌, ◌&&◌, ◌||◌, if◌then◌else◌, List, [], ◌∷◌, length, slice_get, Option, Some, None, map, refl, sym, ap, subst, ◌∙◌, arith}
 use Rattle.std.proofs.lemmas.Slice.Eq.{bytes_eq-Decides}
 use Rattle.sqlite.specs.Kind.{Kind}
 use Rattle.sqlite_value.specs.declared.value.Value.{Value}

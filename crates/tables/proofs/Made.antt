@@ -1,15 +1,7 @@
 -- What an edit of ours that was made did to the rows of its table, and that it did nothing else.
-use Rattle.std.proofs.Common.{◌≡◌, inl, inr, refl, take, List, [], ◌∷◌, ◌++◌, Bool, true, false, cond, filter, map, not, sym, ap, subst, ◌∙◌, ◌&&◌}
-use Rattle.tables.proofs.Common.{IsPermutation, IsPermutation-append_left, IsPermutation-cons, IsPermutation-filter, IsPermutation-map, IsPermutation-middle, IsPermutation-refl, IsPermutation-sym, IsPermutation-trans, IsKeyed, Null, Row, Chosen, and_parts, all_has, are_fresh, cells, id_in, is_taken, laid_out, map-append, map-map, put_all, put_row, rowid, take-map, with_rowid, with_row, without_all, begins_with, AnyTable, Cells, Group, Has}
-use Rattle.row_model.specs.declared.table.Table.{Table}
-use Rattle.row_model.specs.Rows.{are_of, key_in, keyed, kinds_of, shared_by}
-use Rattle.sqlite.specs.Effect.{Database}
-use Rattle.sqlite_trees.specs.View.{is_int}
-use Rattle.tables.specs.declared.statements.Entering.{Entering}
-use Rattle.tables.specs.declared.statements.Entering.TheVariants.{InPlace, New}
-use Rattle.tables.specs.Causes.{IsMade, OfChange, OfEntry, OfLeaving, OfRow, adding, changing, replacing}
-use Rattle.tables.specs.Table.{Place, table_at, value_of, values}
-use Rattle.tables.specs.Writes.{Adds, Enters, Leaves, Puts, Removes, goes_on}
+use Rattle.tables.proofs.Common.{IsPermutation, IsPermutation-append_left, IsPermutation-cons, IsPermutation-filter, IsPermutation-map, IsPermutation-middle, IsPermutation-refl, IsPermutation-sym, IsPermutation-trans, IsKeyed, Null, Row, Chosen, and_parts, all_has, are_fresh, cells, id_in, is_taken, laid_out, map-append, map-map, put_all, put_row, rowid, take-map, with_rowid, with_row, without_all, begins_with, AnyTable, Cells, Group, Has, ◌≡◌, inl, inr, refl, take, List, [], ◌∷◌, ◌++◌, Bool, true, false, cond, filter, map, not, sym, ap, subst, ◌∙◌, ◌&&◌, Ours as Table, are_of, keyed, kinds_of, shared_by, Database, is_int, Entering, InPlace, New, IsMade, OfChange, OfEntry, OfLeaving, OfRow, adding, changing, replacing, Place, table_at, value_of, values, Adds, Enters, Leaves, goes_on}
+use Rattle.row_model.specs.Rows.{key_in}
+use Rattle.tables.specs.Writes.{Puts, Removes}
 use Rattle.tables.proofs.Places.{listed_along}
 use Rattle.tables.proofs.Puts.{put_row_permutes}
 use Rattle.tables.proofs.Rowids.{keyed_put, keyed_put_all, permuted_has, put_all_permutes}

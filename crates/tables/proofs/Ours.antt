@@ -1,19 +1,8 @@
 -- A database of ours stays ours: the next rowid is free, edits leave numbers that rise, and no foreign key acts on a table.
-use Rattle.std.proofs.Common.{◌≡◌, inl, inr, ℕ, suc, ◌+◌, ◌<◌, ◌≤◌, ◌^◌, ◌==◌, ℤ, pos, ◌+ℤ◌, int_cmp, fold, List, [], ◌∷◌, find, filter, map, Option, Some, None, Bool, true, false, Less, is_eq, refl, sym, ap, subst, ◌∙◌, arith}
-use Rattle.std.specs.Prelude.{⊤}
-use Rattle.std.proofs.lemmas.Bool.{cases_eq, ne_eqb}
-use Rattle.tables.proofs.Common.{AllByRecursion, IsPermutation, Decides-eqb, Decides-ltb, Null, Int, Value, Row, value_cmp, value_cmp-Int, value_cmp_total, rowid, IsAscending, put_row, without_rowid, put_all, without_all, is_taken, id_in, with_rowid, Chosen, Has, all_from, all_has, has_got, all-filter, ascending-filter, same_name, AnyTable, Schema, Database, Ours, Place, Lists, laid_out, shape_of, table_at, IsActedOn, IsInert, IsMade, OfEntry, OfLeaving, adding, changing, replacing, Stands, begins_with, goes_on, cells, Group, shared_by}
-use Rattle.sqlite.specs.Edit.{next_rowid}
-use Rattle.sqlite.specs.Order.{column}
-use Rattle.sqlite.specs.Tree.{IsTable}
-use Rattle.sqlite_keyed.proofs.ListLemmas.{all_map, all_weaker, any_from_none}
-use Rattle.sqlite_rules.proofs.ListLemmas.{has_filtered}
+use Rattle.std.proofs.Common.{is_eq}
+use Rattle.tables.proofs.Common.{AllByRecursion, IsPermutation, Decides-eqb, Decides-ltb, Null, Int, Value, Row, value_cmp, value_cmp-Int, value_cmp_total, rowid, IsAscending, put_row, without_rowid, put_all, without_all, is_taken, id_in, with_rowid, Chosen, Has, all_from, all_has, has_got, all-filter, ascending-filter, same_name, AnyTable, Schema, Database, Ours, Place, Lists, laid_out, shape_of, table_at, IsActedOn, IsInert, IsMade, OfEntry, OfLeaving, adding, changing, replacing, Stands, begins_with, goes_on, cells, Group, shared_by, ◌≡◌, inl, inr, ℕ, suc, ◌+◌, ◌<◌, ◌≤◌, ◌^◌, ◌==◌, ℤ, pos, ◌+ℤ◌, int_cmp, fold, List, [], ◌∷◌, find, filter, map, Option, Some, None, Bool, true, false, Less, refl, sym, ap, subst, ◌∙◌, arith, ⊤, cases_eq, ne_eqb, next_rowid, column, IsTable, all_map, all_weaker, any_from_none, has_filtered, fits_i64, HasRoom, IsOurs, Entering, InPlace, New}
 use Rattle.sqlite_rules.proofs.RuleLemmas.{same_table}
-use Rattle.sqlite_sql.specs.Ops.{fits_i64}
 use Rattle.sqlite_trees.proofs.TreeLemmas.{IsTable-put_row, all-put_row}
-use Rattle.tables.specs.Ours.{HasRoom, IsOurs}
-use Rattle.tables.specs.declared.statements.Entering.{Entering}
-use Rattle.tables.specs.declared.statements.Entering.TheVariants.{InPlace, New}
 use Rattle.tables.proofs.CreateTable.{all_passive}
 use Rattle.tables.proofs.Quiet.{inert_so}
 use Rattle.tables.proofs.Rowids.{permuted_has}

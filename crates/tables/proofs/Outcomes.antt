@@ -1,9 +1,6 @@
 -- Things that are done one after another: one more, and all of them.
-use Rattle.std.proofs.Common.{◌≡◌, ◌<◌, ◌+◌, inl, inr, ℕ, List, [], ◌∷◌, ◌++◌, ap, ◌∙◌, drop, get_or, length, take, take-append-drop, IfOk, IsErrAnd, Option, Result, Ok, Err, refl, sym, subst, append-nil, append_assoc}
-use Rattle.std.proofs.lemmas.List.{drop_more}
-use Rattle.tables.proofs.Common.{Database, HasStepped, HasCleanDisk, State, Stays, TableFault}
+use Rattle.tables.proofs.Common.{Database, HasStepped, HasCleanDisk, State, Stays, TableFault, ◌≡◌, ◌<◌, ◌+◌, inl, inr, ℕ, List, [], ◌∷◌, ◌++◌, ap, ◌∙◌, drop, get_or, length, take, take-append-drop, IfOk, IsErrAnd, Option, Result, Ok, Err, refl, sym, subst, append-nil, append_assoc, drop_more, IsPart}
 use Rattle.tables.specs.Outcomes.{Outcome, each_of, followed_by, of_known}
-use Rattle.tables.specs.Steps.{IsPart}
 use Rattle.tables.proofs.Runs.{part_err, part_then, stepped_as, stays_both, stays_keeps, stays_so, stays_stepped, stepped_stays}
 
 module _ {X : Type 0} (outcome : X → Outcome) where

@@ -1,6 +1,5 @@
 -- A table that is listed.
-use Rattle.std.proofs.Common.{◌≡◌, [], false, sym, subst}
-use Rattle.tables.proofs.Common.{Table, Schema, Lists}
+use Rattle.tables.proofs.Common.{Table, Schema, Lists, ◌≡◌, [], false, sym, subst}
 
 -- a table with no AUTOINCREMENT and no default that reads the time
 abbrev pub untimed : Table → Table

@@ -1,6 +1,5 @@
 -- The plainest query is a statement under any schema.
-use Rattle.std.proofs.Common.{◌≡◌, ℕ, List, [], length, codes, Ok, refl, sym, ap, arith}
-use Rattle.tables.proofs.Common.{Schema, State, IsNotRun, Compiled, Error, Storage, fault_of, IsStopped, IsText}
+use Rattle.tables.proofs.Common.{Schema, State, IsNotRun, Compiled, Error, Storage, fault_of, IsStopped, IsText, ◌≡◌, ℕ, List, [], length, codes, Ok, refl, sym, ap, arith}
 use Rattle.sqlite.specs.Listing.{understood, listing_schema}
 use Rattle.sqlite_tied.specs.Compute.{everything}
 use Rattle.tables.proofs.Ends.{not_run}

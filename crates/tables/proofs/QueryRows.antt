@@ -1,6 +1,5 @@
 -- The rows that a statement over one table finds.
-use Rattle.std.proofs.Common.{◌≡◌, ◌≤◌, length, ℕ, List, [], ◌∷◌, ◌++◌, slice_range, None, Ok, Err, ap, refl, sym, subst₂, ◌∙◌, false, Bool, true, if◌then◌else◌, cond, map, filter}
-use Rattle.tables.proofs.Common.{flat_map, list_all, IsPermutation, IsPermutation-map, Env, eval_all, holds, Null, Program, Checked, and_then, Mismatch, Command, overlay, Row, Database, Answers, Schema, Table, IsWrite, compiled, first, timed, returning, command, on_table, with_command, listing_schema, if_select, understood, text_of, Parsed, Statement, Draft, Compiled, NoSuchTable, Place, TableShape, Lists, made_at, IsWriteOf}
+use Rattle.tables.proofs.Common.{flat_map, list_all, IsPermutation, IsPermutation-map, Env, eval_all, holds, Null, Program, Checked, and_then, Mismatch, Command, overlay, Row, Database, Answers, Schema, Table, IsWrite, compiled, first, timed, returning, command, on_table, with_command, listing_schema, if_select, understood, text_of, Parsed, Statement, Draft, Compiled, NoSuchTable, Place, TableShape, Lists, made_at, IsWriteOf, ◌≡◌, ◌≤◌, length, ℕ, List, [], ◌∷◌, ◌++◌, slice_range, None, Ok, Err, ap, refl, sym, subst₂, ◌∙◌, false, Bool, true, if◌then◌else◌, cond, map, filter}
 use Rattle.sqlite_sql.specs.Term.{Term}
 use Rattle.sqlite_sql.specs.Query.{IsAnswer, output, Output}
 use Rattle.sqlite_resolve.specs.Program.{program}

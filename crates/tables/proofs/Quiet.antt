@@ -1,6 +1,5 @@
 -- Where no reference to a table has an action, none acts.
-use Rattle.std.proofs.Common.{◌≡◌, ◌≢◌, ◌⊎◌, ◌↔◌, inl, inr, ℕ, List, [], ◌∷◌, ◌++◌, Bool, true, false, not, ◌&&◌, ◌||◌, ◌==◌, Option, Some, None, option_map, option_and_then, find, length, refl, sym, ap, subst, ◌∙◌, true≢false}
-use Rattle.tables.proofs.Common.{list_all, flat_map, filter_map, cases_Bool, and_parts, and_from, and_cases, and_left, and_right, or_parts, or_from, not-false, false_from_ne_true, Decides-eqb, has_either, has_found, some_has, some_from, fails_has, fails_from, Has, Row, Schema, Table, NoAction, Enforced, Reference, same_name, ParentKey, key_in, key_places, declared_order, Order, Deed, work_by, work_for, deed_for, pairs, IsInert, IsActedOn}
+use Rattle.tables.proofs.Common.{list_all, flat_map, filter_map, cases_Bool, and_parts, and_from, and_cases, and_left, and_right, or_parts, or_from, not-false, false_from_ne_true, Decides-eqb, has_either, has_found, some_has, some_from, fails_has, fails_from, Has, Row, Schema, Table, NoAction, Enforced, Reference, same_name, ParentKey, key_in, key_places, declared_order, Order, Deed, work_by, work_for, deed_for, pairs, IsInert, IsActedOn, ◌≡◌, ◌≢◌, ◌⊎◌, ◌↔◌, inl, inr, ℕ, List, [], ◌∷◌, ◌++◌, Bool, true, false, not, ◌&&◌, ◌||◌, ◌==◌, Option, Some, None, option_map, option_and_then, find, length, refl, sym, ap, subst, ◌∙◌, true≢false}
 use Rattle.sqlite_schema.specs.declared.schema.Action.{Action}
 use Rattle.tables.specs.Inside.Inert.{is_passive, refers_to, is_quiet, is_inert}
 

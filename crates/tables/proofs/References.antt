@@ -1,31 +1,11 @@
 -- The references of tables of ours: to which keys they are, and that each is to one.
-use Rattle.std.proofs.Common.{◌≡◌, inl, inr, ℕ, List, [], ◌∷◌, not, codes, map, find, slice_get, slice_index_or, Some, None, Bool, true, false, refl, sym, ap, subst, ◌∙◌, cond, unwrap_or, bytes_eq, length, nat_lt}
-use Rattle.std.specs.Prelude.{⊤}
-use Rattle.std.specs.List.{AllByRecursion, position_or_len, list_any, position_from}
+use Rattle.tables.proofs.Common.{◌≡◌, inl, inr, ℕ, List, [], ◌∷◌, not, codes, map, find, slice_get, slice_index_or, Some, None, Bool, true, false, refl, sym, ap, subst, ◌∙◌, cond, unwrap_or, length, nat_lt, ⊤, AllByRecursion, position_or_len, list_any, position_from, find_at, and_from, cases_Bool, or_right, or_left, Decides-eqb, Row, Schema, AnyTable, Trees, Database, IsDatabase, plain, same_name, Reference, ParentKey, agree, has_null, has_parent, is_index_for, is_key_if_to, is_key_of, parent_key, references_fit, is_unique_key, IsSound, automatic, Has, all_has, has_got, some_from, test_from, named_parent, Ours as Table, Edition, Supervisor, Project, Student, Round, OldChoice, OldPlacement, RoundAim, Choice, Placement, all_tables, Lists, made_here, referring, shape_of, IsOurs}
+use Rattle.std.proofs.Common.{bytes_eq}
 use Rattle.std.proofs.lemmas.Iterator.Adapters.{position_from-zero}
-use Rattle.std.proofs.lemmas.List.Folds.{find_at}
-use Rattle.std.proofs.lemmas.Bool.{and_from, cases_Bool, or_right, or_left}
-use Rattle.std.proofs.lemmas.Bool.Decides.{Decides-eqb}
 use Rattle.sqlite_tied.specs.Compute.{everything}
-use Rattle.sqlite.specs.Order.{Row}
-use Rattle.sqlite.specs.Schema.{Schema}
-use Rattle.sqlite.specs.Table.{Table as AnyTable}
-use Rattle.sqlite.specs.Tree.{Trees}
-use Rattle.sqlite.specs.Effect.{Database, IsDatabase}
-use Rattle.sqlite_value.specs.Keys.{plain, first_key, joined}
-use Rattle.sqlite_schema.specs.Names.{same_name}
-use Rattle.sqlite_schema.specs.declared.schema.Reference.{Reference}
-use Rattle.sqlite_schema.specs.Rules.{ParentKey, agree, has_null, has_parent, is_index_for, is_key_if_to, is_key_of, parent_key, references_fit, is_unique_key}
-use Rattle.sqlite_catalog.specs.Listing.{IsSound, automatic}
-use Rattle.sqlite_rules.specs.Lists.{Has}
-use Rattle.sqlite_rules.proofs.ListLemmas.{all_has, has_got, some_from, test_from}
-use Rattle.sqlite_rules.proofs.PlaceLemmas.{named_parent}
+use Rattle.sqlite_value.specs.Keys.{first_key, joined}
 use Rattle.sqlite_rules.proofs.ProbeLemmas.{has_mapped}
 use Rattle.sqlite_rules.proofs.RuleLemmas.{same_table}
-use Rattle.row_model.specs.declared.table.Table.{Table}
-use Rattle.row_model.specs.declared.table.Table.TheVariants.{Edition, Supervisor, Project, Student, Round, OldChoice, OldPlacement, RoundAim, Choice, Placement}
-use Rattle.tables.specs.Table.{all_tables, Lists, made_here, referring, shape_of}
-use Rattle.tables.specs.Ours.{IsOurs}
 
 -- ---- a table by its name
 

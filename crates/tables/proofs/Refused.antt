@@ -1,8 +1,6 @@
 -- The one edit of a statement of a table: the one that it makes, and the one for which it is refused.
-use Rattle.std.proofs.Common.{◌≡◌, ℕ, List, [], ◌∷◌, filter, map, take, find, ◌==◌, ◌^◌, nat_le, nat_lt, Option, Some, Ok, Bool, true, false, refl, ap, subst, ◌∙◌, arith, None}
-use Rattle.tables.proofs.Common.{nat_tests, IsPermutation, IsPermutation-cons, IsPermutation-middle, IsPermutation-refl, IsPermutation-trans, along_permutation, filter_same, map-map, AnyTable, Row, Term, col, rowid, Edit, edit_of, id_in, with_rowid, Chosen, Given, Answers, Database, IsDatabase, Insert, Update, Delete, Values, State, Executes, mode_of, ids_of, Has, all_has, Kind, Cells, are_of, Lists, Place, TableShape, cells, made_at, sql_values, Stands, begins_with, IsMade, IsRefusedIn, OfChange, OfRow, adding, changing, replacing, IsHindered}
+use Rattle.tables.proofs.Common.{nat_tests, IsPermutation, IsPermutation-cons, IsPermutation-middle, IsPermutation-refl, IsPermutation-trans, along_permutation, filter_same, map-map, AnyTable, Row, Term, col, rowid, Edit, edit_of, id_in, with_rowid, Chosen, Given, Answers, Database, IsDatabase, Insert, Update, Delete, Values, State, Executes, mode_of, ids_of, Has, all_has, Kind, Cells, are_of, Lists, Place, TableShape, cells, made_at, sql_values, Stands, begins_with, IsMade, IsRefusedIn, OfChange, OfRow, adding, changing, replacing, IsHindered, ◌≡◌, ℕ, List, [], ◌∷◌, filter, map, take, find, ◌==◌, ◌^◌, nat_le, nat_lt, Option, Some, Ok, Bool, true, false, refl, ap, subst, ◌∙◌, arith, None, CanFind}
 use Rattle.sqlite.specs.Term.{eval_all}
-use Rattle.tables.specs.Causes.{CanFind}
 use Rattle.tables.proofs.InsertRow.{IsInsert, has_listed, insert_means, insert_text}
 use Rattle.tables.proofs.InsertKeyed.{insert_does, insert_edit}
 use Rattle.tables.proofs.Made.{map_same}

@@ -1,7 +1,5 @@
 -- Rows that are distinguished by their rowids, and what puts keep of it.
-use Rattle.std.proofs.Common.{◌≡◌, inl, inr, List, [], ◌∷◌, ◌++◌, map, Bool, true, false, sym, ap, subst, subst₂, ◌∙◌}
-use Rattle.tables.proofs.Common.{list_any, AllByRecursion, IsPermutation, is_eq, and_parts, or_parts, not-true, IsPermutation-refl, IsPermutation-trans, IsPermutation-middle, IsPermutation-sym, IsPermutation-append_right, Value, Row, value_cmp, rowid, has_rowid, put_row, IsAscending, is_int, is_taken, are_fresh, put_all, have_rowids, value_cmp_total, Has, all_has, all_from, int_is, along_permutation, id_of, IsKeyed}
-use Rattle.std.proofs.lemmas.Cmp.{tied_itself, eq_by_cmp_equiv}
+use Rattle.tables.proofs.Common.{list_any, AllByRecursion, IsPermutation, is_eq, and_parts, or_parts, not-true, IsPermutation-refl, IsPermutation-trans, IsPermutation-middle, IsPermutation-sym, IsPermutation-append_right, Value, Row, value_cmp, rowid, has_rowid, put_row, IsAscending, is_int, is_taken, are_fresh, put_all, have_rowids, value_cmp_total, Has, all_has, all_from, int_is, along_permutation, id_of, IsKeyed, ◌≡◌, inl, inr, List, [], ◌∷◌, ◌++◌, map, Bool, true, false, sym, ap, subst, subst₂, ◌∙◌, tied_itself, eq_by_cmp_equiv}
 use Rattle.tables.proofs.Puts.{put_row_permutes}
 
 -- values that differ differ the other way round

@@ -1,6 +1,5 @@
 -- Rows that are taken out by their rowids.
-use Rattle.std.proofs.Common.{◌≡◌, inl, inr, ℤ, List, [], ◌∷◌, map, filter, Bool, true, false, not, ◌||◌, ◌&&◌, cond, refl, sym, ap, subst, ◌∙◌}
-use Rattle.tables.proofs.Common.{list_any, AllByRecursion, IsPermutation, list_any-IsPermutation, Row, has_rowid, without_rowid, IsAscending, without_all, Has, id_of, IsKeyed, all_has, all-filter, ascending-filter}
+use Rattle.tables.proofs.Common.{list_any, AllByRecursion, IsPermutation, list_any-IsPermutation, Row, has_rowid, without_rowid, IsAscending, without_all, Has, id_of, IsKeyed, all_has, all-filter, ascending-filter, ◌≡◌, inl, inr, ℤ, List, [], ◌∷◌, map, filter, Bool, true, false, not, ◌||◌, ◌&&◌, cond, refl, sym, ap, subst, ◌∙◌}
 use Rattle.tables.proofs.Rowids.{found_of, both_of}
 
 any_none : {X : Type 0} (q : X → Bool) (ys : List X) → ((y : X) → Has ys y → q y ≡ false) → list_any q ys ≡ false

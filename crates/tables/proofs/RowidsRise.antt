@@ -1,6 +1,6 @@
 -- Rows whose rowids rise are distinguished by them.
-use Rattle.std.proofs.Common.{◌≡◌, List, [], ◌∷◌, true, false, refl, ap, Ordering, Less, Equal, Greater, is_eq}
-use Rattle.tables.proofs.Common.{AllByRecursion, is_lt, and_parts, Row, value_cmp, rowid, IsAscending, is_int, value_cmp_total, all_has, all_from, IsKeyed, rises, have_ids}
+use Rattle.std.proofs.Common.{is_eq}
+use Rattle.tables.proofs.Common.{AllByRecursion, is_lt, and_parts, Row, value_cmp, rowid, IsAscending, is_int, value_cmp_total, all_has, all_from, IsKeyed, rises, have_ids, ◌≡◌, List, [], ◌∷◌, true, false, refl, ap, Ordering, Less, Equal, Greater}
 
 below : (o : Ordering) → is_lt o ≡ true → o ≡ Less
 below Less h = refl

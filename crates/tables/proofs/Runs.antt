@@ -1,6 +1,5 @@
 -- Statements one after the other, and what they leave alone.
-use Rattle.std.proofs.Common.{◌≡◌, ◌≢◌, ◌⊎◌, inl, inr, arith, ℕ, List, [], ◌∷◌, refl, sym, subst, ◌∙◌, IsTrue, true, false, Bool, map, ap, ◌<◌, ◌^◌, nat_lt, Option, Some, slice_get, Result, Ok, Err, IfOk, IsErrAnd}
-use Rattle.tables.proofs.Common.{AllZip, Decides-ltb, table_named, IsSound, IsTableRow, Has, IsPermutation, Row, Schema, Table, Database, State, HasCleanDisk, KeepsCommit, Executes, Survives, survives_then, Trees, all_has, has_got, Ours, Place, Rules, Lists, cells, table_at, same_table, cases_Bool, IsKeyed, Stands, WritesOnly, Creates, HasStepped, IsPart, Rests, HasRun, Stays, TableFault, Memory, Storage}
+use Rattle.tables.proofs.Common.{AllZip, Decides-ltb, table_named, IsSound, IsTableRow, Has, IsPermutation, Row, Schema, Table, Database, State, HasCleanDisk, KeepsCommit, Executes, Survives, survives_then, Trees, all_has, has_got, Ours, Place, Rules, Lists, cells, table_at, same_table, cases_Bool, IsKeyed, Stands, WritesOnly, Creates, HasStepped, IsPart, Rests, HasRun, Stays, TableFault, Memory, Storage, ◌≡◌, ◌≢◌, ◌⊎◌, inl, inr, arith, ℕ, List, [], ◌∷◌, refl, sym, subst, ◌∙◌, IsTrue, true, false, Bool, map, ap, ◌<◌, ◌^◌, nat_lt, Option, Some, slice_get, Result, Ok, Err, IfOk, IsErrAnd}
 pub use Rattle.row_model.proofs.Tables.{same_table_is, same_table_self}
 use Rattle.tables.proofs.Causes.{stopped_after, stopped_as}
 use Rattle.std.proofs.lemmas.Result.{err_from_is_err_and}

@@ -1,11 +1,8 @@
 -- Two databases with the same trees list the same tables, since a table is what its text in the list of objects defines, at the tree that
 -- its rowid gives.
-use Rattle.std.proofs.Common.{◌≡◌, ℕ, ◌+◌, List, [], ◌∷◌, Some, arith, refl, sym, ap, subst, ◌∙◌, map, filter, slice_get, pos}
-use Rattle.tables.proofs.Common.{AllZip, IsPermutation, table_named, IsTableRow, is_table_row, Database, IsDatabase, Schema, AnyTable, Trees, Value, Int, Place, Lists, cells, IsKeyed, Stands}
+use Rattle.tables.proofs.Common.{AllZip, IsPermutation, table_named, IsTableRow, is_table_row, Database, IsDatabase, Schema, AnyTable, Trees, Value, Int, Place, Lists, cells, IsKeyed, Stands, ◌≡◌, ℕ, ◌+◌, List, [], ◌∷◌, Some, arith, refl, sym, ap, subst, ◌∙◌, map, filter, slice_get, pos, Row as Cells, Words as Text}
 use Rattle.sqlite_trees.specs.Objects.{catalog_tree}
 use Rattle.sqlite_resolve.specs.Compile.{table_defined_by}
-use Rattle.sqlite.specs.Order.{Row as Cells}
-use Rattle.sqlite.specs.declared.types.Value.TheVariants.{Text}
 
 -- the number before one more
 one_less : (m n : ℕ) → ◌≡◌ {A = Value} (Int (pos (m + 1))) (Int (pos (n + 1))) → m ≡ n

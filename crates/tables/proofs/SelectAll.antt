@@ -1,6 +1,5 @@
 -- SELECT of the columns of a whole table, under any schema that lists it.
-use Rattle.std.proofs.Common.{◌≡◌, ◌≤◌, ◌==◌, find, length, ℕ, List, [], ◌∷◌, codes, slice_get, slice_range, Some, None, Ok, Err, refl, sym, ap, subst, ◌∙◌, false, true, drop, pos, negsuc, Bool, if◌then◌else◌, map, unwrap_or, nat_le, nat_lt, ◌-◌, ◌^◌, subst₂, append-nil}
-use Rattle.tables.proofs.Common.{Schema, compiled, first, Parsed, Select, out-Select, Core, out-Core, Null, Int, Term, lit, col, Building, Shown, lift, or_view, sources, Checked, and_then, fresh, max_budget, Output, bounds, result, matching, lower, Binary, outermost, Command, Draft, Program, NoSuchTable, Mismatch, understood, reads_listing, IsSourceOf, listing_schema, if_select, State, IsUnchanged, text_of, Compiled, IsPermutation, IsPermutation-map, IsPermutation-sym, IsPermutation-trans, Table, lets_of, accepts_program, Trees, Row, Database, Reads, overlay, shown, eval_all, Place, TableShape, Lists, made_at, IsKeyed, Stands, Shows, Rests, RanQuery, map-map, IsRolledBack, Error}
+use Rattle.tables.proofs.Common.{Schema, compiled, first, Parsed, Select, out-Select, Core, out-Core, Null, Int, Term, lit, col, Building, Shown, lift, or_view, sources, Checked, and_then, fresh, max_budget, Output, bounds, result, matching, lower, Binary, outermost, Command, Draft, Program, NoSuchTable, Mismatch, understood, reads_listing, IsSourceOf, listing_schema, if_select, State, IsUnchanged, text_of, Compiled, IsPermutation, IsPermutation-map, IsPermutation-sym, IsPermutation-trans, Table, lets_of, accepts_program, Trees, Row, Database, Reads, overlay, shown, eval_all, Place, TableShape, Lists, made_at, IsKeyed, Stands, Shows, Rests, RanQuery, map-map, IsRolledBack, Error, ◌≡◌, ◌≤◌, ◌==◌, find, length, ℕ, List, [], ◌∷◌, codes, slice_get, slice_range, Some, None, Ok, Err, refl, sym, ap, subst, ◌∙◌, false, true, drop, pos, negsuc, Bool, if◌then◌else◌, map, unwrap_or, nat_le, nat_lt, ◌-◌, ◌^◌, subst₂, append-nil, inl, inr}
 use Rattle.sqlite.specs.Compile.{timed, returning, command, read}
 use Rattle.sqlite_ast.specs.declared.Statement.TheVariants as written
 use Rattle.sqlite.specs.Query.{Query, inner, end, IsAnswer, output, Output as Output'}
@@ -21,7 +20,6 @@ use Rattle.sqlite_draft.specs.declared.join.Step.TheVariants.{Inner}
 use Rattle.sqlite.specs.State.{Shown as HasShown}
 use Rattle.tables.proofs.Understood.{planned_of, compiled_of, Means}
 use Rattle.std.proofs.lemmas.List.Concat.{flat_map_single}
-use Rattle.std.proofs.Common.{inl, inr}
 use Rattle.tables.proofs.Rowids.{keyed_by_ids, keyed_permuted}
 use Rattle.sqlite.specs.State.{CommitsShowing, FailsToQuery, IsNotRun}
 

@@ -1,27 +1,12 @@
 -- A row of few and short values can be stored, and so can its entry in the index of a key.
-use Rattle.std.proofs.Common.{◌≡◌, inl, inr, ℕ, pos, negsuc, suc, ◌+◌, ◌*◌, ◌≤◌, ◌<◌, zero, List, [], ◌∷◌, All, Option, None, Some, drop, length, nat_le, slice_get, slice_index_or, sum_by, true, refl, sym, ap, subst, ◌∙◌, arith}
-use Rattle.std.specs.Prelude.{⊤}
+use Rattle.tables.proofs.Common.{◌≡◌, inl, inr, ℕ, pos, negsuc, suc, ◌+◌, ◌*◌, ◌≤◌, ◌<◌, zero, List, [], ◌∷◌, Option, None, Some, drop, length, nat_le, slice_get, slice_index_or, sum_by, true, refl, sym, ap, subst, ◌∙◌, arith, ⊤, AllByRecursion, list_all, Value, Null, Int, Words, Bytes as Blob, Row, IsOversized, Database, bytes, number, IsStorable, index_reals, table_reals, Index, Has, has_got, test_has, Ours as Table, Edition, laid_out, made_here, rules_of, shape_of, IsOurs}
+use Rattle.std.proofs.Common.{All}
 use Rattle.std.specs.Float.{NotNan}
-use Rattle.std.specs.List.{AllByRecursion, list_all}
 use Rattle.std.proofs.lemmas.Nat.Bits.{bit_at-zero}
 use Rattle.std.proofs.lemmas.List.Sums.{sum_by-cons}
 use Rattle.std.proofs.lemmas.List.Elements.{All-cons, All-nil}
-use Rattle.sqlite.specs.declared.types.Value.{Value}
-use Rattle.sqlite.specs.declared.types.Value.TheVariants.{Null, Int, Real, Text as Words, Blob}
-use Rattle.sqlite.specs.Order.{Row}
-use Rattle.sqlite.specs.Edit.{IsOversized}
-use Rattle.sqlite.specs.Effect.{Database}
-use Rattle.sqlite_value.specs.Order.{bytes, number}
-use Rattle.sqlite_trees.specs.View.{IsStorable}
-use Rattle.sqlite_schema.specs.Rules.{index_reals, table_reals}
+use Rattle.sqlite.specs.declared.types.Value.TheVariants.{Real}
 use Rattle.sqlite_sql.specs.Catalog.{entry_of}
-use Rattle.sqlite_schema.specs.declared.schema.Index.{Index}
-use Rattle.sqlite_rules.specs.Lists.{Has}
-use Rattle.sqlite_rules.proofs.ListLemmas.{has_got, test_has}
-use Rattle.row_model.specs.declared.table.Table.{Table}
-use Rattle.row_model.specs.declared.table.Table.TheVariants.{Edition}
-use Rattle.tables.specs.Table.{laid_out, made_here, rules_of, shape_of}
-use Rattle.tables.specs.Ours.{IsOurs}
 
 -- a value of a row of ours
 abbrev pub IsSmall : Value → Type 0

@@ -1,6 +1,5 @@
 -- A call that returns out of memory ended on a statement that returned it.
-use Rattle.std.proofs.Common.{◌≡◌, List, ℕ, refl, ◌∙◌}
-use Rattle.tables.proofs.Common.{Row, State, Memory, FailsToWrite, LacksMemory}
+use Rattle.tables.proofs.Common.{Row, State, Memory, FailsToWrite, LacksMemory, ◌≡◌, List, ℕ, refl, ◌∙◌}
 use Rattle.tables.proofs.Causes.{inside_so, moment_of}
 
 -- a statement

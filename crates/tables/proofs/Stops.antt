@@ -1,9 +1,7 @@
 -- Where a write stops that sets off no action, and that no limit of steps ends: at its one edit.
-use Rattle.std.proofs.Common.{◌≡◌, inl, inr, ℕ, zero, suc, ◌/◌, List, [], ◌∷◌, ◌++◌, Option, Some, None, Ok, Err, true, sym, ap, subst, ◌∙◌, append-nil, length, length-append, slice_get, arith, Any}
-use Rattle.tables.proofs.Common.{Error, Row, Schema, Table, Term, Trees, Command, Insert, Update, Delete, Values, Edit, edit_of, taken_by, Given, Database, Answers, value_rows, Task, Written, Queried, Sourced, Inserts, Updates, Deletes, Does, Concludes, OnRows, WritesRows, accepts_program, accepts_terms, Program, Enforced, lets_of, Refers, Leads, Writes, works, ids_of, one_step, IsRefusedIn, plain_mode}
+use Rattle.std.proofs.Common.{Any}
+use Rattle.tables.proofs.Common.{Error, Row, Schema, Table, Term, Trees, Command, Insert, Update, Delete, Values, Edit, edit_of, taken_by, Given, Database, Answers, value_rows, Task, Written, Queried, Sourced, Inserts, Updates, Deletes, Does, Concludes, OnRows, WritesRows, accepts_program, accepts_terms, Program, Enforced, lets_of, Refers, Leads, Writes, works, ids_of, one_step, IsRefusedIn, plain_mode, ◌≡◌, inl, inr, ℕ, zero, suc, ◌/◌, List, [], ◌∷◌, ◌++◌, Option, Some, None, Ok, Err, true, sym, ap, subst, ◌∙◌, append-nil, length, length-append, slice_get, arith, All, Refusal}
 use Rattle.sqlite_sql.specs.Program.{ProgramOverflows}
-use Rattle.sqlite_schema.specs.declared.schema.Among.TheVariants.{All}
-use Rattle.sqlite_rules.specs.declared.error.Refusal.{Refusal}
 use Rattle.tables.proofs.SelectAll.{found_program}
 use Rattle.tables.proofs.InsertKeyed.{insert_edit, no_works, went, same_value}
 use Rattle.tables.proofs.Places.{untimed}

@@ -1,22 +1,11 @@
 -- A row of ours as it is stored: it is of its columns' kinds, and agrees with another at its key where that one begins with the key.
-use Rattle.std.proofs.Common.{◌≡◌, ◌⊎◌, inl, inr, ℕ, ℤ, pos, ◌≤◌, List, [], ◌∷◌, codes, drop, Some, Bool, true, false, if◌then◌else◌, refl, ◌∙◌, arith, int_cmp, is_ge, is_le}
+use Rattle.tables.proofs.Common.{◌≡◌, ◌⊎◌, inl, inr, ℕ, ℤ, pos, ◌≤◌, List, [], ◌∷◌, codes, drop, Some, Bool, true, false, if◌then◌else◌, refl, ◌∙◌, arith, int_cmp, is_ge, is_le, Int, Words, Bytes as Blob, Row, rowid, plain, value_cmp-Int, is_eq, and_from, and_parts, from_truth, is_true, agree, equal, passes_checks, is_present, is_typed, Ours as Table, Supervisor, Project, Student, Round, Import, RoundAim, Choice, Placement, between, checks_of, cells, made_here, shape_of, begins_with}
 use Rattle.sqlite_tied.specs.Compute.{everything}
 use Rattle.sqlite_tied.proofs.RuleLemmas.{and_true}
-use Rattle.sqlite.specs.declared.types.Value.TheVariants.{Int, Text as Words, Blob}
-use Rattle.sqlite.specs.Order.{Row, value_cmp}
-use Rattle.sqlite.specs.Tree.{rowid}
+use Rattle.sqlite.specs.Order.{value_cmp}
 use Rattle.sqlite_value.specs.declared.keys.Collation.TheVariants.{Binary}
-use Rattle.sqlite_value.specs.Keys.{plain, first_key}
-use Rattle.sqlite_value.proofs.OrderLemmas.{value_cmp-Int}
-use Rattle.std.specs.Ordering.{is_eq}
-use Rattle.std.proofs.lemmas.Bool.{and_from, and_parts}
-use Rattle.sqlite_sql.specs.Ops.{binary, from_truth, is_true}
-use Rattle.sqlite_schema.specs.Rules.{agree, equal, passes_checks}
-use Rattle.sqlite_rules.specs.Steps.{is_present, is_typed}
-use Rattle.row_model.specs.declared.table.Table.{Table}
-use Rattle.row_model.specs.declared.table.Table.TheVariants.{Supervisor, Project, Student, Round, Import, RoundAim, Choice, Placement}
-use Rattle.tables.specs.Table.{between, checks_of, cells, made_here, shape_of}
-use Rattle.tables.specs.Writes.{begins_with}
+use Rattle.sqlite_value.specs.Keys.{first_key}
+use Rattle.sqlite_sql.specs.Ops.{binary}
 use Rattle.sqlite_value.specs.Order.{column}
 use Rattle.tables.proofs.References.{IsParent}
 use Rattle.tables.proofs.Taken.{stored}

@@ -1,11 +1,9 @@
 -- The texts of each table are read and resolved, by computing: the parser and the resolver run on the literal texts here, and nowhere else.
-use Rattle.std.proofs.Common.{◌≡◌, ℕ, ℤ, length, map, List, [], ◌∷◌, Bool, true, false, refl}
-use Rattle.tables.proofs.Common.{and_parts, Row, rowid, Term, col, Int, Words, Edition, Supervisor, Project, Student, Round, OldChoice, OldPlacement, Import, RoundAim, Choice, Placement, Group, Key, OfList, Placed, keyed, kinds_of, shared_by, shared_kinds, Place, cells, choices, made_at, shape_of, sql_of, table_at, removal, begins_with, goes_on, Schema, Output}
+use Rattle.tables.proofs.Common.{and_parts, Row, rowid, Term, col, Int, Words, Edition, Supervisor, Project, Student, Round, OldChoice, OldPlacement, Import, RoundAim, Choice, Placement, Group, Key, OfList, Placed, keyed, kinds_of, shared_by, shared_kinds, Place, cells, choices, made_at, shape_of, sql_of, table_at, removal, begins_with, goes_on, Schema, Output, ◌≡◌, ℕ, ℤ, length, map, List, [], ◌∷◌, Bool, true, false, refl, Ours as Table}
 use Rattle.sqlite_tied.specs.Compute.{everything}
 use Rattle.sqlite.specs.Listing.{listing_schema}
 use Rattle.sqlite.specs.Ops.{unary}
 use Rattle.sqlite_value.specs.Keys.{first_key}
-use Rattle.row_model.specs.declared.table.Table.{Table}
 use Rattle.tables.proofs.Texts.{Anywhere, AreAccepted, AreFound, AreRead, AreTested, Each, Gives, IsShown, Removal, Removes, Texts, either}
 use Rattle.tables.proofs.Forms.{delete_of, finds_of, outs_of, read_as, values_of}
 use Rattle.tables.proofs.InsertRow.{cast_bytes, cast_id, cast_null, cast_int}

@@ -1,33 +1,8 @@
 -- A row that comes into a table of ours, in the place of its predecessor or as one more, is refused for nothing, where it suits the table:
 -- it shares no key, and names rows that are there. Nor is it refused that lists or placements go.
-use Rattle.std.proofs.Common.{◌≡◌, ◌⊎◌, inl, inr, ℕ, ℤ, ◌≤◌, suc, zero, List, [], ◌∷◌, ◌&&◌, not, drop, length, nat_lt, slice_get, slice_index_or, Some, true, false, Equal, refl, sym, ap, subst, ◌∙◌, true≢false}
-use Rattle.std.specs.List.{AllByRecursion, list_any}
-use Rattle.std.specs.Cmp.{Equal-is}
-use Rattle.std.specs.Ordering.{is_ne}
-use Rattle.std.proofs.lemmas.Bool.{and_from, and_parts, and_right, both_ways, cases_Bool, or_cases, false_from_ne_true, not_from_false, not-true}
-use Rattle.std.proofs.lemmas.Bool.Decides.{Decides-eqb}
-use Rattle.std.proofs.lemmas.Cmp.{tied_itself}
-use Rattle.sqlite.specs.declared.types.Value.TheVariants.{Null, Int}
-use Rattle.sqlite.specs.Order.{Row, value_cmp}
-use Rattle.sqlite.specs.Table.{Table as AnyTable}
-use Rattle.sqlite.specs.Tree.{has_rowid, rowid, without_rowid}
-use Rattle.sqlite.specs.Edit.{Edit, IsOversized, is_taken, left_by}
-use Rattle.sqlite.specs.Effect.{Database, IsDatabase}
-use Rattle.sqlite_sql.specs.Ops.{binary, fits_i64, from_truth, is_true}
-use Rattle.sqlite_value.specs.Keys.{plain}
-use Rattle.sqlite_value.proofs.OrderLemmas.{value_cmp_total}
-use Rattle.sqlite_schema.specs.declared.schema.Index.{Index}
-use Rattle.sqlite_schema.specs.declared.schema.Reference.{Reference}
-use Rattle.sqlite_schema.specs.Rules.{ParentKey, agree, clashes, differ, guards, has_parent, passes_checks}
-use Rattle.sqlite_rules.specs.Lists.{Has}
-use Rattle.sqlite_rules.specs.Steps.{is_present, is_typed}
-use Rattle.sqlite_rules.proofs.ListLemmas.{all_has, has_filtered, has_got, has_kept, some_has, test_from}
+use Rattle.tables.proofs.Common.{◌≡◌, ◌⊎◌, inl, inr, ℕ, ℤ, ◌≤◌, suc, zero, List, [], ◌∷◌, ◌&&◌, not, drop, length, nat_lt, slice_get, slice_index_or, Some, true, false, Equal, refl, sym, ap, subst, ◌∙◌, true≢false, AllByRecursion, list_any, Equal-is, is_ne, and_from, and_parts, and_right, both_ways, cases_Bool, or_cases, false_from_ne_true, not_from_false, not-true, Decides-eqb, tied_itself, Null, Int, Row, value_cmp, AnyTable, has_rowid, rowid, without_rowid, Edit, IsOversized, is_taken, left_by, Database, IsDatabase, fits_i64, from_truth, is_true, plain, value_cmp_total, Index, Reference, ParentKey, agree, clashes, differ, guards, has_parent, passes_checks, Has, is_present, is_typed, all_has, has_filtered, has_got, has_kept, some_has, test_from, tied_same, Ours as Table, IsRefusedIn, IsOurs, Lists, ascending, laid_out, made_here, rules_of, shape_of}
+use Rattle.sqlite_sql.specs.Ops.{binary}
 use Rattle.sqlite_rules.proofs.KeyLemmas.{agree_chain}
-use Rattle.sqlite_rules.proofs.PlaceLemmas.{tied_same}
-use Rattle.row_model.specs.declared.table.Table.{Table}
-use Rattle.tables.specs.Causes.{IsRefusedIn}
-use Rattle.tables.specs.Ours.{IsOurs}
-use Rattle.tables.specs.Table.{Lists, ascending, laid_out, made_here, rules_of, shape_of}
 use Rattle.tables.proofs.Edits.{AreReplaced, after, now_has, suits}
 use Rattle.tables.proofs.References.{IsParent, is_parent, keys_fit, link, linked, links_of, refers_here, to_parents}
 use Rattle.tables.proofs.Sized.{IsSmall, fits_in, length_stored, small_stored}

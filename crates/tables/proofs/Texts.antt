@@ -1,8 +1,6 @@
 -- The texts of a table mean what its row declares. A table gives `Texts`: that its texts are read as the forms of its shape, and what
 -- these are resolved to over the table, which the resolver computes of the literal texts. The rest is here, once for all tables.
-use Rattle.std.proofs.Common.{◌≡◌, ℕ, ℤ, suc, ◌/◌, slice_get, ◌^◌, List, [], ◌∷◌, length, map, take, drop, slice_range, arith, nat_lt, pos, Bool, true, false, None, Some, Ok, Err, refl, ap}
-use Rattle.tables.proofs.Common.{take_all, Null, Int, Words, Row, Schema, Term, col, Command, MakesTable, first, with_command, new_rows, if_select, is_select, Checked, and_then, Parsed, Values, rowid, cast_row, value_rows, with_rowid, Chosen, result, lower, outermost, shown, same_itself, table_named, is_int, eval_all, TableBody, updated, deleted, Output, NoSuchTable, Kind, Key, Cells, are_of, keyed, kinds_of, shared_kinds, TableShape, Sql, Place, Lists, laid_out, rules_of, shape_of, sql_of, table_at, cells, values, begins_with, goes_on, accepts_terms}
-use Rattle.sqlite.specs.declared.types.Value.TheVariants.{Blob}
+use Rattle.tables.proofs.Common.{take_all, Null, Int, Words, Row, Schema, Term, col, Command, MakesTable, first, with_command, new_rows, if_select, is_select, Checked, and_then, Parsed, Values, rowid, cast_row, value_rows, with_rowid, Chosen, result, lower, outermost, shown, same_itself, table_named, is_int, eval_all, TableBody, updated, deleted, Output, NoSuchTable, Kind, Key, Cells, are_of, keyed, kinds_of, shared_kinds, TableShape, Sql, Place, Lists, laid_out, rules_of, shape_of, sql_of, table_at, cells, values, begins_with, goes_on, accepts_terms, ◌≡◌, ℕ, ℤ, suc, ◌/◌, slice_get, ◌^◌, List, [], ◌∷◌, length, map, take, drop, slice_range, arith, nat_lt, pos, Bool, true, false, None, Some, Ok, Err, refl, ap, Bytes as Blob, Ours as Table}
 use Rattle.sqlite.specs.Compile.{compiled, planned, meaning, command, create_table, delete, update, timed, returning, shows, table_defined_by, table_in}
 use Rattle.sqlite.specs.Listing.{listing_schema}
 use Rattle.sqlite_ast.specs.declared.Statement.TheVariants as written
@@ -10,7 +8,6 @@ use Rattle.sqlite_resolve.specs.Define as define
 use Rattle.sqlite_tied.specs.Compute.{everything}
 use Rattle.row_model.specs.declared.cell.Cell.TheVariants.{Text, Number, Bytes}
 use Rattle.row_model.specs.declared.cell.Kind.TheVariants as kind
-use Rattle.row_model.specs.declared.table.Table.{Table}
 use Rattle.tables.proofs.CreateTable.{IsCreate, made_command}
 use Rattle.tables.proofs.InsertRow.{IsInsert}
 use Rattle.tables.proofs.QueryRows.{hit}

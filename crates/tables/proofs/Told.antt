@@ -1,13 +1,8 @@
 -- What the statements of each table do.
-use Rattle.std.proofs.Common.{◌≡◌, ℕ, take, List, [], subst, true, Option, Result, Ok, Err, IfOk, Vec}
-use Rattle.tables.proofs.Common.{take-map, Database, Row, State, Executes, CommitsShowing, Trees, TableFault, IsKeyed, Group, Cells, are_of, keyed, kinds_of, shared_by, shared_kinds, Sql, made_here, rules_of, shape_of, sql_of, table_at, value_of, values, entering, removal, Creates, goes_on, HasRun, RanQuery, HasStepped, Shows, Rests, Edit, FailsToRead, IsMade, IsRefusedIn, IsStopped, IsTableMade, IsUnmade, OfEntry, OfLeaving, IsUnread, ShowsInOrder, IsHindered, Storage}
+use Rattle.tables.proofs.Common.{take-map, Database, Row, State, Executes, CommitsShowing, Trees, TableFault, IsKeyed, Group, Cells, are_of, keyed, kinds_of, shared_by, shared_kinds, Sql, made_here, rules_of, shape_of, sql_of, table_at, value_of, values, entering, removal, Creates, goes_on, HasRun, RanQuery, HasStepped, Shows, Rests, Edit, FailsToRead, IsMade, IsRefusedIn, IsStopped, IsTableMade, IsUnmade, OfEntry, OfLeaving, IsUnread, ShowsInOrder, IsHindered, Storage, ◌≡◌, ℕ, take, List, [], subst, true, Option, Result, Ok, Err, IfOk, Vec, Ours as Table, Entering, InPlace, New, CanEnter, CanFind}
 use Rattle.std.specs.declared.alloc.Global.{Global}
 use Rattle.sqlite.specs.State.{Shown}
-use Rattle.row_model.specs.declared.table.Table.{Table}
 use Rattle.row_model.specs.Rows.{key_in}
-use Rattle.tables.specs.declared.statements.Entering.{Entering}
-use Rattle.tables.specs.declared.statements.Entering.TheVariants.{InPlace, New}
-use Rattle.tables.specs.Causes.{CanEnter, CanFind}
 use Rattle.tables.proofs.CreateTable.{create_makes, create_writes}
 use Rattle.tables.proofs.InsertRow.{insert_writes}
 use Rattle.tables.proofs.UpdateRow.{update_writes}

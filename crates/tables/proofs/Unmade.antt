@@ -1,16 +1,12 @@
 -- A CREATE TABLE is refused for its names, for want of room, or for counters that other tables lack.
-use Rattle.std.proofs.Common.{◌≡◌, inl, inr, ℕ, zero, suc, ◌∷◌, ◌+◌, ◌*◌, ◌^◌, ◌≤◌, nat_lt, List, [], codes, length, Option, Some, None, is_some, Ok, Err, true, false, if◌then◌else◌, refl, sym, ap, subst, ◌∙◌, arith, IsUtf8}
-use Rattle.std.specs.Cmp.{first_so, second_so}
-use Rattle.tables.proofs.Common.{IsAscii, list_all, option_or, cases_Bool, or_parts, nat_tests, Error, Words, Schema, AnyTable, created, Command, CreateTable, Nothing, table_defined_by, with_command, Does, Tally, MakesSequence, lacks_sequence, Database, CreatesTable, RefusesTable, is_fit, is_formed, Checked, and_then, Unsupported, Has, test_has, index_named, table_named, view_named, index_reals, table_reals, IsTableMade, IsUnmade, IsHindered, IsWriteOf, plain_mode, made_here, rules_of, shape_of, sql_of, Outcome, State, Executes}
+use Rattle.tables.proofs.Common.{IsAscii, list_all, option_or, cases_Bool, or_parts, nat_tests, Error, Words, Schema, AnyTable, created, Command, CreateTable, Nothing, table_defined_by, with_command, Does, Tally, MakesSequence, lacks_sequence, Database, CreatesTable, RefusesTable, is_fit, is_formed, Checked, and_then, Unsupported, Has, test_has, index_named, table_named, view_named, index_reals, table_reals, IsTableMade, IsUnmade, IsHindered, IsWriteOf, plain_mode, made_here, rules_of, shape_of, sql_of, Outcome, State, Executes, ◌≡◌, inl, inr, ℕ, zero, suc, ◌∷◌, ◌+◌, ◌*◌, ◌^◌, ◌≤◌, nat_lt, List, [], codes, length, Option, Some, None, is_some, Ok, Err, true, false, if◌then◌else◌, refl, sym, ap, subst, ◌∙◌, arith, IsUtf8, first_so, second_so, KeepsRows, automatics, Index, Ours as Table}
 use Rattle.std.proofs.lemmas.Str.{IsUtf8-from_ascii}
 use Rattle.sqlite.specs.Compile.{command, create_table, creates, is_attached, is_reserved as reserves, returning, timed}
 use Rattle.sqlite.specs.Does.{MakesTable}
 use Rattle.sqlite_ast.specs.declared.Statement.TheVariants as written
-use Rattle.sqlite_catalog.specs.Change.{KeepsRows, automatics, is_reserved, is_used, next_tree}
+use Rattle.sqlite_catalog.specs.Change.{is_reserved, is_used, next_tree}
 use Rattle.sqlite_catalog.specs.declared.error.Refusal.{Refusal}
 use Rattle.sqlite_catalog.specs.declared.error.Refusal.TheVariants.{Invalid, NameTaken, BadName, TooBig, BadKey, BadText, Violates}
-use Rattle.sqlite_schema.specs.declared.schema.Index.{Index}
-use Rattle.row_model.specs.declared.table.Table.{Table}
 use Rattle.tables.proofs.CreateTable.{create_means}
 use Rattle.tables.proofs.InsertKeyed.{same_value, went}
 use Rattle.tables.proofs.Understood.{runs_by}

@@ -1,6 +1,6 @@
 -- A reading of a table is refused only where two of its rows have one rowid, or one has none.
-use Rattle.std.proofs.Common.{◌≡◌, inl, inr, ℕ, suc, get_or, ◌+◌, ◌^◌, nat_lt, List, [], ◌∷◌, map, length, Some, None, Ok, true, false, refl, sym, ap, subst, subst₂, ◌∙◌, ◌&&◌, append-nil, arith, Ordering, Less, Equal, Greater, is_eq}
-use Rattle.tables.proofs.Common.{AllByRecursion, IsSorted, is_lt, ordering_reverse, and_from, Error, AnyTable, Row, value_cmp, rowid, Database, RefusesToRead, shown, with_command, IsSourceOf, State, Command, out-Select, Storage, fault_of, Output, value_cmp_total, Lists, Place, TableShape, made_at, IsKeyed, have_ids, rises, FailsToRead, IsStopped, IsUnread, ShowsInOrder, by_rowid, IsText, TableFault}
+use Rattle.std.proofs.Common.{is_eq}
+use Rattle.tables.proofs.Common.{AllByRecursion, IsSorted, is_lt, ordering_reverse, and_from, Error, AnyTable, Row, value_cmp, rowid, Database, RefusesToRead, shown, with_command, IsSourceOf, State, Command, out-Select, Storage, fault_of, Output, value_cmp_total, Lists, Place, TableShape, made_at, IsKeyed, have_ids, rises, FailsToRead, IsStopped, IsUnread, ShowsInOrder, by_rowid, IsText, TableFault, ◌≡◌, inl, inr, ℕ, suc, get_or, ◌+◌, ◌^◌, nat_lt, List, [], ◌∷◌, map, length, Some, None, Ok, true, false, refl, sym, ap, subst, subst₂, ◌∙◌, ◌&&◌, append-nil, arith, Ordering, Less, Equal, Greater}
 use Rattle.sqlite.specs.Compile.{command, read, returning, timed}
 use Rattle.sqlite.specs.State.{FailsToQuery}
 use Rattle.sqlite_ast.specs.declared.Statement.TheVariants as written

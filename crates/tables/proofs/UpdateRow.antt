@@ -1,6 +1,5 @@
 -- UPDATE by key, which sets every column but the rowid.
-use Rattle.std.proofs.Common.{◌≡◌, ℕ, length, List, [], ◌∷◌, slice_get, Option, Some, None, Ok, refl, sym, ap, subst, ◌∙◌, true, take, drop, Bool}
-use Rattle.tables.proofs.Common.{Schema, Table, Null, Row, Expr, updated, eval_all, is_int, Update, Program, rowid, put_row, Database, Answers, Written, Tally, Does, Mode, cast_row, edit_of, Applies, numbered, Given, ids_of, works, one_step, Kind, Cells, are_of, Place, TableShape, cells, laid_out, made_at, sql_values, begins_with}
+use Rattle.tables.proofs.Common.{Schema, Table, Null, Row, Expr, updated, eval_all, is_int, Update, Program, rowid, put_row, Database, Answers, Written, Tally, Does, Mode, cast_row, edit_of, Applies, numbered, Given, ids_of, works, one_step, Kind, Cells, are_of, Place, TableShape, cells, laid_out, made_at, sql_values, begins_with, ◌≡◌, ℕ, length, List, [], ◌∷◌, slice_get, Option, Some, None, Ok, refl, sym, ap, subst, ◌∙◌, true, take, drop, Bool}
 use Rattle.sqlite_ast.specs.declared.Statement.TheVariants as written
 use Rattle.sqlite_sql.specs.Term.{Term, col}
 use Rattle.tables.proofs.InsertKeyed.{went, same_value}

@@ -1,31 +1,12 @@
 -- Why a statement is not carried out, for another cause than running out of memory.
-use Rattle.std.specs.Prelude.{◌≡◌, ◌⊎◌, ◌&&◌, ◌==◌, ◌≤◌, ◌+◌, length, ℕ, ℤ, Bool, true, false, drop, filter, find, map, List, [], ◌∷◌, Option, None, Some, Result, Err}
-use Rattle.std.specs.List.Sorted.{IsPermutation, IsSorted}
+use Rattle.std.specs.Prelude.{◌≡◌, ◌⊎◌, ◌&&◌, ◌==◌, ◌≤◌, ◌+◌, ◌∷◌, length, ℕ, ℤ, Bool, true, false, drop, filter, find, map, List, [], Option, None, Some, Result, Err}
+use Rattle.tables.specs.Common.{IsPermutation, IsSorted, Error, Row, value_cmp, AnyTable, Trees, rowid, Edit, Applies, IsOversized, IsRefused, id_in, with_rowid, Null, Database, IsDatabase, lacks_sequence, State, HasCleanDisk, Savepoint, ExecutesInside, FailsToQuery, Shown, Enforced, Refers, Has, Index, Group, shared_by, TableFault, Memory, Storage, Entering, InPlace, New}
 use Rattle.std.specs.declared.cmp.Ordering.{Ordering}
 use Rattle.sqlite_disk.specs.Disk.{MoreFaults}
-use Rattle.sqlite.specs.declared.error.Error.{Error}
-use Rattle.sqlite.specs.Order.{Row, value_cmp}
-use Rattle.sqlite.specs.Table.{Table as AnyTable}
-use Rattle.sqlite.specs.Tree.{Trees, rowid}
-use Rattle.sqlite.specs.Edit.{Edit, Applies, IsOversized, IsRefused, id_in, with_rowid}
 use Rattle.sqlite.specs.Rowids.TheVariants.{Chosen}
-use Rattle.sqlite.specs.declared.types.Value.TheVariants.{Null}
-use Rattle.sqlite.specs.Effect.{Database, IsDatabase}
-use Rattle.sqlite.specs.Does.{lacks_sequence}
-use Rattle.sqlite.specs.State.{State, HasCleanDisk, Savepoint, ExecutesInside, FailsToQuery, Shown}
-use Rattle.tables.specs.declared.fault.TableFault.{TableFault}
-use Rattle.tables.specs.declared.fault.TableFault.TheVariants.{Memory, Storage}
 use Rattle.sqlite_schema.specs.declared.schema.Among.TheVariants.{All}
-use Rattle.sqlite_schema.specs.declared.schema.Keys.TheVariants.{Enforced}
-use Rattle.sqlite_schema.specs.Rules.{Refers}
 use Rattle.sqlite_rules.specs.declared.error.Refusal.{Refusal}
-use Rattle.sqlite_rules.specs.Lists.{Has}
-use Rattle.sqlite_schema.specs.declared.schema.Index.{Index}
 use Rattle.sqlite_catalog.specs.Change.{KeepsRows, automatics, created, is_used, next_tree}
-use Rattle.row_model.specs.declared.row.Group.{Group}
-use Rattle.row_model.specs.Rows.{shared_by}
-use Rattle.tables.specs.declared.statements.Entering.{Entering}
-use Rattle.tables.specs.declared.statements.Entering.TheVariants.{InPlace, New}
 use Rattle.tables.specs.Faults.{fault_of}
 use Rattle.tables.specs.Table.{Lists, Place, cells, laid_out, table_at}
 use Rattle.tables.specs.Writes.{IsInert, begins_with, goes_on}

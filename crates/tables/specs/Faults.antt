@@ -1,9 +1,7 @@
 -- Why a statement fails.
-use Rattle.sqlite.specs.declared.error.Error.{Error}
+use Rattle.tables.specs.Common.{Error, TableFault, Memory, Storage}
 use Rattle.sqlite.specs.declared.error.Error.TheVariants.{SqliteFailure}
 use Rattle.sqlite.specs.declared.error.ErrorCode.TheVariants as code
-use Rattle.tables.specs.declared.fault.TableFault.{TableFault}
-use Rattle.tables.specs.declared.fault.TableFault.TheVariants.{Memory, Storage}
 
 -- out of memory, or whatever else the database answers
 abbrev pub fault_of : Error → TableFault

@@ -1,10 +1,6 @@
 -- Which foreign keys act where rows of a table are taken out or replaced.
 use Rattle.std.specs.Prelude.{◌≡◌, ◌≢◌, ◌⊎◌, ℕ, true, List}
-use Rattle.sqlite.specs.Table.{Table}
-use Rattle.sqlite_schema.specs.declared.schema.Action.TheVariants.{NoAction}
-use Rattle.sqlite_schema.specs.declared.schema.Reference.{Reference}
-use Rattle.sqlite_schema.specs.Names.{same_name}
-use Rattle.sqlite_rules.specs.Lists.{Has}
+use Rattle.tables.specs.Common.{AnyTable as Table, NoAction, Reference, same_name, Has}
 
 -- A foreign key acts on the table of this tree: some table of the schema refers to it by its name, and not with
 -- NO ACTION both where rows are taken out and where they are replaced.

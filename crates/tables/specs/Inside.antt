@@ -1,7 +1,6 @@
 -- What proofs need and no public clause says.
 pub mod Causes
 pub mod Inert
-pub mod Keyed
 pub mod Layout
 pub mod Steps
 pub mod Table

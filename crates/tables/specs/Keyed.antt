@@ -1,12 +1,7 @@
 -- Rows that are distinguished by their rowids, and a table that holds them.
-use Rattle.std.specs.Prelude.{◌≡◌, Bool, true, false, ◌&&◌, List, [], ◌∷◌}
-use Rattle.std.specs.List.{AllByRecursion, list_all}
+use Rattle.std.specs.Prelude.{◌≡◌, ◌&&◌, ◌∷◌, Bool, true, false, List, []}
+use Rattle.tables.specs.Common.{AllByRecursion, list_all, Row, value_cmp, AnyTable as Table, rowid, IsAscending, Database, is_int}
 use Rattle.std.specs.Ordering.{is_eq, is_lt}
-use Rattle.sqlite.specs.Order.{Row, value_cmp}
-use Rattle.sqlite.specs.Table.{Table}
-use Rattle.sqlite.specs.Tree.{rowid, IsAscending}
-use Rattle.sqlite.specs.Effect.{Database}
-use Rattle.sqlite_trees.specs.View.{is_int}
 use Rattle.tables.specs.Table.{Place, Lists, HasRows}
 
 -- each rowid is an integer, and no two are one

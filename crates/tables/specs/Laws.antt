@@ -1,10 +1,6 @@
 -- What the edits of a statement make of the rows of its table.
 use Rattle.std.specs.Prelude.{◌≡◌, true}
-use Rattle.sqlite.specs.Effect.{Database}
-use Rattle.row_model.specs.declared.row.Group.{Group}
-use Rattle.row_model.specs.declared.table.Table.{Table}
-use Rattle.row_model.specs.Rows.{Cells, are_of, key_in, kinds_of}
-use Rattle.tables.specs.declared.statements.Entering.{Entering}
+use Rattle.tables.specs.Common.{Database, Group, Table, Cells, are_of, key_in, kinds_of, Entering}
 use Rattle.tables.specs.Outcomes.{entry, leaving}
 use Rattle.tables.specs.Table.{table_at, values}
 use Rattle.tables.specs.Writes.{Enters, Leaves}

@@ -1,12 +1,8 @@
 -- Whether a table has the columns and the keys of one that is made here, and its references: it may stand in another tree, with other
 -- CHECK rules, without STRICT, and with references that name no column.
-use Rattle.std.specs.Prelude.{ℕ, Bool, false, ◌||◌, List, is_some}
-use Rattle.std.specs.List.{list_any}
-use Rattle.std.specs.Option.{option_map_or}
+use Rattle.std.specs.Prelude.{◌||◌, ℕ, Bool, false, List, is_some}
+use Rattle.tables.specs.Common.{list_any, option_map_or, same_name, table_named, AnyTable, Schema}
 use Rattle.sqlite_schema.specs.declared.schema.View.{View}
-use Rattle.sqlite_schema.specs.Names.{same_name, table_named}
-use Rattle.sqlite.specs.Table.{Table as AnyTable}
-use Rattle.sqlite.specs.Schema.{Schema}
 use Rattle.tables.specs.Table.{Place, Rules, Lists}
 
 -- the table is listed at this tree

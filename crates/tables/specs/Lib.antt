@@ -1,3 +1,4 @@
+pub mod Common
 pub mod Ours
 pub mod Table
 pub mod Keyed

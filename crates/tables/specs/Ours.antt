@@ -1,16 +1,7 @@
 -- Tables as they are made here, where nothing else of a schema bears on them.
 use Rattle.std.specs.Prelude.{◌≡◌, ◌<◌, ◌+◌, ◌^◌, ℕ, pos, true, List, slice_get, Some}
-use Rattle.std.specs.List.{AllByRecursion}
-use Rattle.sqlite.specs.Table.{Table as AnyTable}
-use Rattle.sqlite.specs.Tree.{IsAscending, IsTable, rowid}
-use Rattle.sqlite.specs.Effect.{Database}
-use Rattle.sqlite.specs.declared.types.Value.TheVariants.{Int}
+use Rattle.tables.specs.Common.{AllByRecursion, AnyTable, IsAscending, IsTable, rowid, Database, Int, Has, same_name, Index, Reference, Table}
 use Rattle.sqlite_catalog.specs.Listing.{automatic}
-use Rattle.sqlite_rules.specs.Lists.{Has}
-use Rattle.sqlite_schema.specs.Names.{same_name}
-use Rattle.sqlite_schema.specs.declared.schema.Index.{Index}
-use Rattle.sqlite_schema.specs.declared.schema.Reference.{Reference}
-use Rattle.row_model.specs.declared.table.Table.{Table}
 use Rattle.tables.specs.Table.{Place, made_here, shape_of, table_at}
 
 -- the index is one that a key of the table made

@@ -1,10 +1,6 @@
 -- What the statements of the tables come to, one by one and one after another.
-use Rattle.std.specs.Prelude.{◌≡◌, ◌⊎◌, ℕ, List, [], ◌∷◌, Option}
-use Rattle.sqlite.specs.Effect.{Database}
-use Rattle.row_model.specs.declared.row.Group.{Group}
-use Rattle.row_model.specs.declared.table.Table.{Table}
-use Rattle.row_model.specs.Rows.{Cells, key_in, shared_by}
-use Rattle.tables.specs.declared.statements.Entering.{Entering}
+use Rattle.std.specs.Prelude.{◌≡◌, ◌⊎◌, ◌∷◌, ℕ, List, [], Option}
+use Rattle.tables.specs.Common.{Database, Group, Table, Cells, key_in, shared_by, Entering}
 use Rattle.tables.specs.Causes.{CanFind, CanEnter, IsMade, IsRefusedIn, IsTableMade, IsUnmade, OfEntry, OfLeaving}
 use Rattle.tables.specs.Table.{made_here, rules_of, table_at, values}
 use Rattle.tables.specs.Writes.{Creates}

@@ -1,16 +1,9 @@
 -- What a statement, a transaction and a crash do, under a relation P between the database before and after.
 use Rattle.std.specs.Prelude.{◌≡◌, ◌^◌, ℕ, IsTrue, true, false, List, map, drop, nat_lt, Option, Result, IfOk}
-use Rattle.sqlite.specs.Effect.{Database, IsDatabase}
-use Rattle.sqlite.specs.State.{State, HasCleanDisk, KeepsCommit, Survives, IsUnchanged, Shows as Sees}
-use Rattle.sqlite.specs.Order.{Row}
-use Rattle.sqlite.specs.Table.{Table}
+use Rattle.tables.specs.Common.{Database, IsDatabase, State, HasCleanDisk, KeepsCommit, Survives, IsUnchanged, Sees, Row, AnyTable as Table, Trees, Held, state, Ghosts, TableFault}
 use Rattle.tables.specs.Table.{Place, Lists}
 use Rattle.tables.specs.Keyed.{Stands}
-use Rattle.sqlite.specs.Tree.{Trees}
-use Rattle.sqlite.specs.Held.{Held, state}
-use Rattle.sqlite_trees.specs.declared.store.Store.{Ghosts}
-use Rattle.tables.specs.declared.fault.TableFault.{TableFault}
-use Rattle.tables.specs.Causes.{IsCausedInside, IsStarvedInside}
+use Rattle.tables.specs.Causes.{IsCaused, IsCausedInside, IsStarvedInside}
 use Rattle.tables.specs.Outcomes.{Outcome}
 
 -- a statement in a transaction went through: nothing is committed, and what the transaction sees changed by P, and is a database
@@ -45,6 +38,14 @@ pub record Shows (table : Place → Table) (rows : List Row) (old new : State) :
 -- where no transaction was open nothing has changed, unless a fault of the disk has shut the connection
 abbrev pub Rests : State → State → Type 0
 Rests old new = IsTrue new.is_open → IsTrue old.is_open × (old.now ≡ old.committed → (new.now ≡ old.now) × (new.committed ≡ old.committed))
+
+-- A call that reads changes nothing, leaves no transaction open, and a crash leaves what it left before. Where it answers this error, the
+-- connection is shut, the disk has failed, or the call is hindered in this way.
+pub record IsReading {A E : Type 0} (storage : E) (Hinders : Option ℕ → Database → Type 0) (result : Result A E) (old new : State) : Type 0 where
+  pub rests : HasCleanDisk new → Rests old new
+  pub cause : IsCaused storage Hinders result old new
+  pub ended : old.in_transaction ≡ false → new.in_transaction ≡ false
+  pub survives : Survives old new (λ _. ⊥)
 
 -- A call in a transaction commits nothing. Where it answers it did this, unless the disk has failed. Where it returns out of memory, a
 -- statement was; and where it returns another fault, the connection is shut, the disk has failed, or the call is hindered in this way.

@@ -1,31 +1,17 @@
 -- The tables of the product, as a schema lists them, and the rows that they hold.
-use Rattle.std.specs.Prelude.{◌≡◌, if◌then◌else◌, ℕ, zero, suc, Bool, true, false, None, Some, Option, [], ◌∷◌, codes, List, map, drop, length, slice_get, pos}
-use Rattle.std.specs.List.Sorted.{IsPermutation}
+use Rattle.std.specs.Prelude.{◌≡◌, if◌then◌else◌, ◌∷◌, ℕ, zero, suc, Bool, true, false, None, Some, Option, [], codes, List, map, drop, length, slice_get, pos}
+use Rattle.tables.specs.Common.{IsPermutation, Null, Int, Words, Bytes, Row, Binary, AnyTable, Schema, Kind, Database, Column, Reference, NoAction, table_named, Order, Table, Cells}
 use Rattle.sqlite.specs.declared.types.Value.{Value}
-use Rattle.sqlite.specs.declared.types.Value.TheVariants.{Null, Int, Text as Words, Blob as Bytes}
-use Rattle.sqlite.specs.Order.{Row}
-use Rattle.sqlite.specs.Collation.TheVariants.{Binary}
-use Rattle.sqlite.specs.Table.{Table as AnyTable}
-use Rattle.sqlite.specs.Schema.{Schema}
-use Rattle.sqlite.specs.Kind.{Kind}
 use Rattle.sqlite.specs.Kind.TheVariants.{Integer, Text, Blob, Any}
-use Rattle.sqlite.specs.Effect.{Database}
 use Rattle.sqlite.specs.Rows.{shown}
 use Rattle.sqlite_sql.specs.Term.{Term, lit, col, op2}
 use Rattle.sqlite_sql.specs.declared.ops.BinaryOp.TheVariants.{Compare, And, Or}
 use Rattle.sqlite_sql.specs.declared.ops.CompareOp.{CompareOp}
 use Rattle.sqlite_sql.specs.declared.ops.CompareOp.TheVariants.{Eq, Ge, Le}
-use Rattle.sqlite_schema.specs.declared.schema.Column.{Column}
-use Rattle.sqlite_schema.specs.declared.schema.Reference.{Reference}
-use Rattle.sqlite_schema.specs.declared.schema.Action.TheVariants.{NoAction}
-use Rattle.sqlite_schema.specs.Names.{table_named}
 use Rattle.sqlite_value.specs.Keys.{plain}
-use Rattle.sqlite_value.specs.declared.keys.Order.{Order}
 use Rattle.row_model.specs.declared.cell.Cell.{Cell}
 use Rattle.row_model.specs.declared.cell.Cell.TheVariants as cell
-use Rattle.row_model.specs.declared.table.Table.{Table}
 use Rattle.row_model.specs.declared.table.Table.TheVariants.{Edition, Supervisor, Project, Student, Round, OldChoice, OldPlacement, Import, RoundAim, Choice, Placement}
-use Rattle.row_model.specs.Rows.{Cells}
 pub use Rattle.row_model.specs.Rows.{all_tables, same_table}
 
 -- A table as it is declared: its name and its columns; the position of the column that is the rowid, if one is; its key,

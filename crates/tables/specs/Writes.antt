@@ -1,21 +1,10 @@
 -- What a statement does to the rows of its table, and that it does nothing else.
-use Rattle.std.specs.Prelude.{◌≡◌, ◌≢◌, [], ◌∷◌, ◌&&◌, List, Bool, true, ℕ, filter, map, drop, not, if◌then◌else◌}
-use Rattle.std.specs.List.{AllByRecursion}
-use Rattle.sqlite.specs.Order.{Row, column}
-use Rattle.sqlite.specs.Collation.TheVariants.{Binary}
-use Rattle.sqlite.specs.Table.{Table as AnyTable}
-use Rattle.sqlite.specs.Schema.{Schema}
-use Rattle.sqlite.specs.Effect.{Database}
+use Rattle.std.specs.Prelude.{◌≡◌, ◌≢◌, ◌∷◌, ◌&&◌, if◌then◌else◌, [], List, Bool, true, ℕ, filter, map, drop, not}
+use Rattle.tables.specs.Common.{AllByRecursion, Row, column, Binary, AnyTable, Schema, Database, equal, Enforced, Group, shared_by, Entering, InPlace, New}
 use Rattle.sqlite_rules.specs.Action.{works}
-use Rattle.sqlite_schema.specs.Rules.{equal}
-use Rattle.sqlite_schema.specs.declared.schema.Keys.TheVariants.{Enforced}
-use Rattle.row_model.specs.declared.row.Group.{Group}
-use Rattle.row_model.specs.Rows.{shared_by}
 use Rattle.tables.specs.Table.{Place, Rules, Lists, table_at}
 use Rattle.tables.specs.Keyed.{Stands}
 use Rattle.tables.specs.Inert.{IsActedOn}
-use Rattle.tables.specs.declared.statements.Entering.{Entering}
-use Rattle.tables.specs.declared.statements.Entering.TheVariants.{InPlace, New}
 
 -- the schema is as it was, and of its tables at most the one of this tree has changed
 pub record WritesOnly (tree : ℕ) (old new : Database) : Type 0 where

@@ -1,15 +1,12 @@
 //! Whether a schema lists the tables with the columns and the keys that are made here, and their references. A table that is found
 //! may be one without STRICT, and its references may name no column, so that a key is meant.
 
-ghost use Rattle.std.specs.Prelude.{◌≡◌, ℕ, ◌==◌, map, false, slice_get, None, Some, IfSome};
-ghost use Rattle.std.specs.Str.{bytes_eq};
-ghost use Rattle.std.specs.List.{list_all, list_any};
-ghost use Rattle.sqlite_schema.specs.Names.{table_named};
+ghost use Rattle.std.specs.Prelude.{◌≡◌, ◌==◌, ℕ, map, false, slice_get, None, Some, IfSome};
+ghost use Rattle.tables.specs.Common.{bytes_eq, list_all, list_any, table_named, AnyTable};
 ghost use Rattle.tables.specs.Inside.Table.{column_by, link_by, places_by, told_by};
 ghost use Rattle.tables.specs.Table.{kind_in, shape_of, table_at};
 ghost use Rattle.tables.specs.Inside.Layout.{is_alone, is_required, are_loose, are_of_one, are_strict, are_told, is_referring, are_plain, is_untimed, has_keys, has_shape, IsTableNamed};
 ghost use Rattle.tables.specs.Layout.{IsListed, IsUnlisted, is_kept_of, is_there};
-ghost use Rattle.sqlite.specs.Table.{Table as AnyTable};
 
 use crate::inert::is_passive;
 use crate::table::{Link, Shape, Shaped, ToldColumn};

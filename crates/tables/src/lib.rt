@@ -28,4 +28,3 @@ mod write;
 
 pub use laws::rows_law;
 pub use row_model::Table;
-pub use table::width;

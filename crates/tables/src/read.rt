@@ -1,12 +1,8 @@
 //! Reading a whole table.
 
 ghost use Rattle.std.specs.Prelude.{◌≡◌, ◌&&◌, IfOk, IfErr, IsTrue, false, []};
-ghost use Rattle.std.specs.List.Sorted.{IsPermutation, IsSorted};
-ghost use Rattle.sqlite.specs.State.{HasCleanDisk, Survives, CommitsShowing};
-ghost use Rattle.sqlite.specs.Held.{state};
-ghost use Rattle.sqlite_value.specs.Value.{owned};
+ghost use Rattle.tables.specs.Common.{IsPermutation, IsSorted, HasCleanDisk, Survives, CommitsShowing, state, owned, is_int};
 ghost use Rattle.sqlite_trees.specs.Tree.{rowid};
-ghost use Rattle.sqlite_trees.specs.View.{is_int};
 ghost use Rattle.tables.specs.Causes.{FailsToRead, ShowsInOrder, by_rowid};
 ghost use Rattle.tables.specs.Inside.Steps.{RanQuery};
 ghost use Rattle.tables.specs.Keyed.{IsKeyed, comes_first, rises, have_ids};
@@ -95,11 +91,10 @@ pub(crate) fn read_text<S: Alter>(
     ensures keyed { IfOk result (λ rows. IsKeyed rows.items) }
     ensures shown { HasCleanDisk (state S.Store conn.new)
         → IfOk result (λ rows. ShowsInOrder sql.now rows.items (state S.Store conn.old) (state S.Store conn.new)) }
-    ensures ran { HasCleanDisk (state S.Store conn.new) → RanQuery sql.now (state S.Store conn.old) (state S.Store conn.new) }
 
     // Why it fails: the query fails, and the fault is that of its error, or two of its rows have one rowid, or one has none.
-    ensures told { HasCleanDisk (state S.Store conn.new)
-        → IfErr result (λ fault. FailsToRead sql.now fault (state S.Store conn.old) (state S.Store conn.new)) }
+    ensures ran { HasCleanDisk (state S.Store conn.new) → RanQuery sql.now (state S.Store conn.old) (state S.Store conn.new)
+        × IfErr result (λ fault. FailsToRead sql.now fault (state S.Store conn.old) (state S.Store conn.new)) }
     ensures mode { conn.old.in_transaction ≡ false → conn.new.in_transaction ≡ false }
     ensures survives { Survives (state S.Store conn.old) (state S.Store conn.new) (CommitsShowing sql.now [] (state S.Store conn.old)) }
 {

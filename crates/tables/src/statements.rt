@@ -1,15 +1,12 @@
 //! The statements, each over any table.
 
-ghost use Rattle.std.specs.Prelude.{◌≡◌, [], IfOk, IfErr, false, true};
-ghost use Rattle.sqlite.specs.State.{HasCleanDisk, Survives};
-ghost use Rattle.sqlite.specs.Held.{state};
-ghost use Rattle.tables.specs.declared.fault.TableFault.TheVariants.{Storage};
-ghost use Rattle.tables.specs.Causes.{FailsToRead, IsCaused, IsUnread};
+ghost use Rattle.std.specs.Prelude.{◌≡◌, [], IfOk, IfErr, true};
+ghost use Rattle.tables.specs.Common.{HasCleanDisk, state, are_of, kinds_of, shared_kinds, Storage};
+ghost use Rattle.tables.specs.Causes.{FailsToRead, IsUnread};
 ghost use Rattle.tables.specs.Outcomes.{entry, leaving, making};
-ghost use Rattle.row_model.specs.Rows.{are_of, kinds_of, shared_kinds};
 ghost use Rattle.tables.specs.Table.{sql_of, table_at};
 ghost use Rattle.tables.specs.Inside.Table.{entering};
-ghost use Rattle.tables.specs.Steps.{Rests, Shows, Steps};
+ghost use Rattle.tables.specs.Steps.{IsReading, Shows, Steps};
 
 use crate::fault::{TableFault, Wrote};
 use crate::read::read_text;
@@ -80,12 +77,9 @@ pub fn leave<S: Alter>(tx: &mut Transaction<'_, S>, group: Group, cells: &[Cell]
 pub fn read<S: Alter>(conn: &mut Connection<S>, table: Table) -> Result<Vec<Row>, TableFault>
     ensures rows { HasCleanDisk (state S.Store conn.new)
         → IfOk result (λ rows. Shows (table_at table) rows.items (state S.Store conn.old) (state S.Store conn.new)) }
-    ensures rests { HasCleanDisk (state S.Store conn.new) → Rests (state S.Store conn.old) (state S.Store conn.new) }
     ensures told { HasCleanDisk (state S.Store conn.new)
         → IfErr result (λ fault. FailsToRead (sql_of table).select fault (state S.Store conn.old) (state S.Store conn.new)) }
-    ensures cause { IsCaused Storage (IsUnread (table_at table)) result (state S.Store conn.old) (state S.Store conn.new) }
-    ensures mode { conn.old.in_transaction ≡ false → conn.new.in_transaction ≡ false }
-    ensures survives { Survives (state S.Store conn.old) (state S.Store conn.new) (λ _. ⊥) }
+    ensures reads { IsReading Storage (IsUnread (table_at table)) result (state S.Store conn.old) (state S.Store conn.new) }
 {
     read_text(conn, table.shape().select)
 }

@@ -197,13 +197,6 @@ pub(crate) fn removal(group: Group) -> &'static str
     }
 }
 
-/// Returns how many columns the table has.
-pub fn width(table: Table) -> usize
-    ensures { result ≡ length (kinds_of table) }
-{
-    table.kinds().len()
-}
-
 // A trait, since `Table` is of `row_model`, which knows no SQL.
 /// What has a shape.
 pub(crate) trait Shaped {

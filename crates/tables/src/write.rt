@@ -1,8 +1,8 @@
 //! One statement in a transaction.
 
 ghost use Rattle.std.specs.Prelude.{◌≡◌, ◌≤◌, length, take};
-ghost use Rattle.sqlite.specs.Values.{bound, bound_value};
 ghost use Rattle.sqlite_value.specs.Value.{owned};
+ghost use Rattle.sqlite.specs.Values.{bound, bound_value};
 ghost use Rattle.tables.specs.Inside.Steps.{IsWritten};
 ghost use Rattle.tables.specs.Table.{value_of, values};
 

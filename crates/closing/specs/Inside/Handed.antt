@@ -1,11 +1,7 @@
 -- For proofs alone. The rolls that the parts of an office give.
-use Rattle.std.specs.Prelude.{◌≡◌, ℕ, ◌-◌, List, Option, map}
+use Rattle.std.specs.Prelude.{◌≡◌, ◌-◌, ℕ, List, Option, map}
+use Rattle.closing.specs.Common.{Supervisor, Project, Listed, Placement, AreCounted, count_in, count_with}
 use Rattle.spa.specs.Counted.{Counted}
-use Rattle.rolls.specs.declared.entries.Supervisor.{Supervisor}
-use Rattle.rolls.specs.declared.entries.Project.{Project}
-use Rattle.rolls.specs.declared.rounds.Listed.{Listed}
-use Rattle.rolls.specs.declared.rounds.Placement.{Placement}
-use Rattle.rolls.specs.Counted.{AreCounted, count_in, count_with}
 
 -- a supervisor with the quota less what such rounds placed
 abbrev pub supervisor_left : Option ℕ → List Project → List Placement → Supervisor → List ℕ × ℕ

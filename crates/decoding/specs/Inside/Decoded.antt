@@ -1,19 +1,11 @@
 -- The entry that a row decodes to, where its cells have the form of one.
-use Rattle.std.specs.Prelude.{ℕ, ◌==◌, nat_le, Bool, true, false, ◌&&◌, List, [], ◌∷◌, length, Option, Some, None, if◌then◌else◌}
-use Rattle.std.specs.Option.{option_map}
-use Rattle.std.specs.Str.{bytes_eq}
-use Rattle.spa.specs.declared.TheConstants.{MAX_QUOTA}
+use Rattle.std.specs.Prelude.{◌==◌, ◌&&◌, ◌∷◌, if◌then◌else◌, ℕ, nat_le, Bool, true, false, List, [], length, Option, Some, None}
+use Rattle.decoding.specs.Common.{option_map, bytes_eq, MAX_QUOTA, is_code, is_label, Text, Number, Bytes, Cells, MAX_IMPORT_BYTES, Round, Placement}
 use Rattle.spa.specs.declared.aim.Aim.{Aim}
 use Rattle.spa.specs.declared.aim.Aim.TheVariants.{Greedy, Generous}
-use Rattle.spa.specs.Text.{is_code, is_label}
-use Rattle.row_model.specs.declared.cell.Cell.TheVariants.{Text, Number, Bytes}
-use Rattle.row_model.specs.Rows.{Cells}
-use Rattle.rolls.specs.declared.TheConstants.{MAX_IMPORT_BYTES}
 use Rattle.rolls.specs.declared.entries.Supervisor.{Supervisor}
 use Rattle.rolls.specs.declared.entries.Project.{Project}
 use Rattle.rolls.specs.declared.entries.Student.{Student}
-use Rattle.rolls.specs.declared.rounds.Round.{Round}
-use Rattle.rolls.specs.declared.rounds.Placement.{Placement}
 use Rattle.rolls.specs.declared.rounds.RoundAim.{RoundAim}
 use Rattle.rolls.specs.declared.import.Import.{Import}
 use Rattle.rolls.specs.declared.import.ImportKind.{ImportKind}

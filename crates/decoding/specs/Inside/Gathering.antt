@@ -1,21 +1,11 @@
 -- What rows hold, taken in stage by stage.
-use Rattle.std.specs.Prelude.{ℕ, zero, suc, ◌+◌, ◌==◌, nat_le, ◌&&◌, List, [], ◌∷◌, ◌++◌, length, Option, Some, None, if◌then◌else◌}
-use Rattle.std.specs.List.{filter}
-use Rattle.std.specs.Option.{option_map_or, option_and_then}
-use Rattle.spa.specs.declared.TheConstants.{RANKS}
-use Rattle.spa.specs.Text.{is_code}
+use Rattle.std.specs.Prelude.{◌+◌, ◌==◌, ◌&&◌, ◌∷◌, ◌++◌, if◌then◌else◌, ℕ, zero, suc, nat_le, List, [], length, Option, Some, None}
+use Rattle.decoding.specs.Common.{filter, option_map_or, option_and_then, RANKS, is_code, Text, Number, Cells, RowOf, Listed, Round as RoundEntry, Key, of_code, find, has, put, State, supervisor_key, project_key, student_key, round_key, aim_key, list_key, placement_key, import_key, round_of, Memory, Unfit}
 use Rattle.spa.specs.declared.text.TextFault.{TextFault}
 use Rattle.spa.specs.declared.text.TextFault.TheVariants.{Memory as NoMemory, Form}
-use Rattle.row_model.specs.declared.cell.Cell.TheVariants.{Text, Number}
 use Rattle.row_model.specs.declared.table.Table.{Table}
 use Rattle.row_model.specs.declared.table.Table.TheVariants.{Supervisor, Project, Student, Round, Import, RoundAim, Choice, Placement}
-use Rattle.row_model.specs.Rows.{Cells, RowOf}
-use Rattle.rolls.specs.declared.rounds.Listed.{Listed}
-use Rattle.rolls.specs.declared.rounds.Round.{Round as RoundEntry}
-use Rattle.rolls.specs.Roll.{Key, of_code, find, has, put}
-use Rattle.rolls.specs.State.{State, supervisor_key, project_key, student_key, round_key, aim_key, list_key, placement_key, import_key, round_of}
 use Rattle.decoding.specs.declared.fault.RowsFault.{RowsFault}
-use Rattle.decoding.specs.declared.fault.RowsFault.TheVariants.{Memory, Unfit}
 use Rattle.decoding.specs.Inside.Decoded.{where_so, supervisor_in, project_in, student_in, round_in, aim_in, placement_in, import_in}
 
 -- a text of a row that is no code or label stands in no office

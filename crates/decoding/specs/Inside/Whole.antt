@@ -1,14 +1,6 @@
 -- Finite tests of what was taken in: whether it goes together as an office.
-use Rattle.std.specs.Prelude.{◌-◌, ℕ, nat_le, Bool, false, not, ◌&&◌, length, slice_get}
-use Rattle.std.specs.List.{list_all}
-use Rattle.std.specs.Option.{option_map_or}
-use Rattle.std.specs.Str.{bytes_eq}
-use Rattle.spa.specs.declared.TheConstants.{MAX_SUPERVISORS, MAX_PROJECTS, MAX_STUDENTS, RANKS}
-use Rattle.rolls.specs.declared.TheConstants.{MAX_ROUNDS, MAX_IMPORTS}
-use Rattle.rolls.specs.declared.rounds.Listed.{Listed}
-use Rattle.rolls.specs.declared.rounds.Placement.{Placement}
-use Rattle.rolls.specs.State.{State, has_supervisor, has_project, has_student, is_placed_before, is_closed, choices_in, placed_in_project, placed_with_supervisor}
-use Rattle.rolls.specs.Fit.{are_aimed, are_numbered, only_last_open, is_distinct}
+use Rattle.std.specs.Prelude.{◌-◌, ◌&&◌, ℕ, nat_le, Bool, false, not, length, slice_get}
+use Rattle.decoding.specs.Common.{list_all, option_map_or, bytes_eq, MAX_SUPERVISORS, MAX_PROJECTS, MAX_STUDENTS, RANKS, MAX_ROUNDS, MAX_IMPORTS, Listed, Placement, State, has_supervisor, has_project, has_student, is_placed_before, is_closed, choices_in, placed_in_project, placed_with_supervisor, are_aimed, are_numbered, only_last_open, is_distinct}
 
 -- nothing is too long
 abbrev pub are_few : State → Bool

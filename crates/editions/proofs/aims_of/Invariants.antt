@@ -1,5 +1,4 @@
-use Rattle.std.proofs.Common.{◌≡◌, ◌++◌, drop}
-use Rattle.editions.proofs.Common.{aims_of}
+use Rattle.editions.proofs.Common.{aims_of, ◌≡◌, ◌++◌, drop}
 use Rattle.editions.proofs.aims_of.Given as goal
 
 abbrev pub invariant-loop-row : goal.invariant-loop-row

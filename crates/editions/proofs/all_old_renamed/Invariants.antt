@@ -1,5 +1,4 @@
-use Rattle.std.proofs.Common.{◌≡◌, ◌++◌, drop, filter, map}
-use Rattle.editions.proofs.Common.{is_old, renamed_row}
+use Rattle.editions.proofs.Common.{is_old, renamed_row, ◌≡◌, ◌++◌, drop, filter, map}
 use Rattle.editions.proofs.all_old_renamed.Given as goal
 
 abbrev pub invariant-loop-row : goal.invariant-loop-row

@@ -1,5 +1,4 @@
-use Rattle.std.proofs.Common.{◌≡◌, ◌++◌, map}
-use Rattle.editions.proofs.Common.{renamed_row}
+use Rattle.editions.proofs.Common.{renamed_row, ◌≡◌, ◌++◌, map}
 use Rattle.editions.proofs.all_renamed.Given as goal
 
 abbrev pub invariant-loop-row : goal.invariant-loop-row

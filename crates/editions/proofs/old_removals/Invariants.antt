@@ -1,5 +1,4 @@
-use Rattle.std.proofs.Common.{◌≡◌, ◌++◌, drop, filter, map}
-use Rattle.editions.proofs.Common.{is_old, removal_of}
+use Rattle.editions.proofs.Common.{is_old, removal_of, ◌≡◌, ◌++◌, drop, filter, map}
 use Rattle.editions.proofs.old_removals.Given as goal
 
 abbrev pub invariant-loop-row : goal.invariant-loop-row

@@ -1,5 +1,4 @@
-use Rattle.std.proofs.Common.{◌≡◌, ◌++◌, map}
-use Rattle.editions.proofs.Common.{renaming_changes, Add}
+use Rattle.editions.proofs.Common.{renaming_changes, Add, ◌≡◌, ◌++◌, map}
 use Rattle.editions.proofs.renaming_changes.Given as goal
 
 abbrev pub invariant-loop-row : goal.invariant-loop-row

@@ -1,11 +1,8 @@
 -- Plain requests that were made one after another.
 use Rattle.std.specs.Prelude.{◌≡◌, List, None}
+use Rattle.office.specs.Common.{State, Transforms, rows_refusal, after_rows, changes_of_rows}
 use Rattle.rolls.specs.declared.request.Plain.{Plain}
 use Rattle.row_model.specs.declared.row.Change.{Change}
-use Rattle.rolls.specs.State.{State}
-use Rattle.rolls.specs.Rows.{Transforms}
-use Rattle.rolls.specs.Importing.{rows_refusal, after_rows}
-use Rattle.change_laws.specs.Changes.{changes_of_rows}
 
 -- none of them was refused, and these are their changes, which transform the rows
 pub record AreMade (rows : List Plain) (old new : State) (changes : List Change) : Type 0 where

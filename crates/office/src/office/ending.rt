@@ -1,12 +1,11 @@
 //! The instance of a round, and the closing of the open one.
 
 ghost use Rattle.std.specs.Prelude.{◌≡◌, IfOk, OnErr, IsTrue};
+ghost use Rattle.office.specs.Common.{round_is_open, IsClosed};
 ghost use Rattle.spa.specs.Named.{instance_of};
 ghost use Rattle.spa.specs.Coded.{taken};
-ghost use Rattle.rolls.specs.State.{round_is_open};
 ghost use Rattle.rolls.specs.Instances.{instance_left, instance_of_round, round_instance};
 ghost use Rattle.rolls.specs.Counted.{count_in, count_with};
-ghost use Rattle.rolls.specs.Answers.{IsClosed};
 ghost use Rattle.closing.specs.Places.{ArePlacesOf};
 ghost use Rattle.closing.specs.Changes as says;
 

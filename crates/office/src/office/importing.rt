@@ -1,13 +1,8 @@
 //! Imports: plain requests one after another, all of them or none.
 
 ghost use Rattle.std.specs.Prelude.{◌≡◌, ◌≤◌, ◌⊎◌, ◌&&◌, not, nat_le, false, Ok, Some, None, IfOk, IfErr, OnOk, length};
+ghost use Rattle.office.specs.Common.{has_import, kept_rows, ImportFits, first, import_tests, is_other_import, rows_refusal, with_import, Imports, import_changes};
 ghost use Rattle.rolls.specs.declared.TheConstants.{MAX_IMPORT_BYTES, MAX_IMPORTS};
-ghost use Rattle.rolls.specs.State.{has_import, kept_rows};
-ghost use Rattle.rolls.specs.Fit.{ImportFits};
-ghost use Rattle.rolls.specs.Refusing.{first, import_tests, is_other_import};
-ghost use Rattle.rolls.specs.Importing.{rows_refusal, with_import};
-ghost use Rattle.rolls.specs.Answers.{Imports};
-ghost use Rattle.change_laws.specs.Changes.{import_changes};
 ghost use Rattle.office.specs.Inside.Importing.{AreMade};
 
 use super::Office;

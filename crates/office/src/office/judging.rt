@@ -1,10 +1,9 @@
 //! Which refusal a request gets.
 
 ghost use Rattle.std.specs.Prelude.{◌≡◌, [], Some, None};
-ghost use Rattle.std.specs.List.{list_any};
+ghost use Rattle.office.specs.Common.{list_any, first, plain_refusal, is_moved, choice_tests, open_tests, opening_tests};
 ghost use Rattle.std.specs.Str.{bytes_eq};
 ghost use Rattle.rolls.specs.declared.request.Plain.TheVariants as ask;
-ghost use Rattle.rolls.specs.Refusing.{first, plain_refusal, is_moved, choice_tests, open_tests, opening_tests};
 
 use super::Office;
 use rolls::{MAX_ROUNDS, Refusal, Text};

@@ -1,12 +1,8 @@
 //! Requests that change a list.
 
 ghost use Rattle.std.specs.Prelude.{◌≡◌, None, IfOk, OnErr, IsTrue};
-ghost use Rattle.std.specs.List.{AllByRecursion};
-ghost use Rattle.rolls.specs.State.{has_project};
+ghost use Rattle.office.specs.Common.{AllByRecursion, has_project, plain_refusal, IsDone, changes_of};
 ghost use Rattle.rolls.specs.declared.request.Plain.TheVariants as ask;
-ghost use Rattle.rolls.specs.Refusing.{plain_refusal};
-ghost use Rattle.rolls.specs.Answers.{IsDone};
-ghost use Rattle.rolls.specs.Making.{changes_of};
 
 use super::Office;
 use crate::making::one_change;

@@ -1,9 +1,8 @@
 //! Placements, and what is counted of them.
 
-ghost use Rattle.std.specs.Prelude.{◌≡◌, ℕ, ◌+◌, ◌<◌, ◌==◌, ◌&&◌, ◌≤◌, IsTrue, count_by, length};
+ghost use Rattle.std.specs.Prelude.{◌≡◌, ◌+◌, ◌<◌, ◌==◌, ◌&&◌, ◌≤◌, ℕ, IsTrue, count_by, length};
+ghost use Rattle.office.specs.Common.{placed_in_project, placed_with_supervisor, by_rank};
 ghost use Rattle.spa.specs.declared.TheConstants.{MAX_STUDENTS};
-ghost use Rattle.rolls.specs.State.{placed_in_project, placed_with_supervisor};
-ghost use Rattle.rolls.specs.Stepping.{by_rank};
 
 use super::Office;
 use rolls::Placement;

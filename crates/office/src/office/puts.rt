@@ -1,10 +1,8 @@
 //! Requests that put an entry.
 
 ghost use Rattle.std.specs.Prelude.{◌≡◌, None, IfOk, OnErr};
+ghost use Rattle.office.specs.Common.{plain_refusal, IsDone, changes_of};
 ghost use Rattle.rolls.specs.declared.request.Plain.TheVariants as ask;
-ghost use Rattle.rolls.specs.Refusing.{plain_refusal};
-ghost use Rattle.rolls.specs.Answers.{IsDone};
-ghost use Rattle.rolls.specs.Making.{changes_of};
 
 use super::Office;
 use crate::making::{new_project, new_student, new_supervisor};

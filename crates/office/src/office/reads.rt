@@ -1,10 +1,8 @@
 //! Requests that read an entry.
 
 ghost use Rattle.std.specs.Prelude.{◌≡◌, IfOk, Some, None};
-ghost use Rattle.rolls.specs.State.{open_choices, placement_of};
+ghost use Rattle.office.specs.Common.{open_choices, placement_of, plain_refusal, plain_reply};
 ghost use Rattle.rolls.specs.declared.request.Plain.TheVariants as ask;
-ghost use Rattle.rolls.specs.Refusing.{plain_refusal};
-ghost use Rattle.rolls.specs.Stepping.{plain_reply};
 
 use super::Office;
 use super::placed::{placed_by, ranked};

@@ -1,12 +1,9 @@
 //! Rounds, with their lists, and requests that open one.
 
 ghost use Rattle.std.specs.Prelude.{◌≡◌, true, is_some, option_copied, Some, None, IfOk, OnErr};
+ghost use Rattle.office.specs.Common.{aim_key, aim_of, last_round, list_of, lists_of, round_is_open, round_of, plain_refusal, IsDone, changes_of};
 ghost use Rattle.rolls.specs.Roll.{put};
-ghost use Rattle.rolls.specs.State.{aim_key, aim_of, last_round, list_of, lists_of, round_is_open, round_of};
 ghost use Rattle.rolls.specs.declared.request.Plain.TheVariants as ask;
-ghost use Rattle.rolls.specs.Refusing.{plain_refusal};
-ghost use Rattle.rolls.specs.Answers.{IsDone};
-ghost use Rattle.rolls.specs.Making.{changes_of};
 
 use super::Office;
 use change_laws::{kept_placements, opening_changes, reopening_changes};

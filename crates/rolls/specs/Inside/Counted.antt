@@ -1,11 +1,6 @@
 -- For proofs alone. How many placements each project and each supervisor has, by position in the rolls.
-use Rattle.std.specs.Prelude.{◌≡◌, ℕ, ◌+◌, ◌<◌, ◌≤◌, ◌==◌, ◌&&◌, cond, false, List, slice_get, slice_index, Option, Some}
-use Rattle.std.specs.Str.{bytes_eq}
-use Rattle.spa.specs.declared.TheConstants.{MAX_SUPERVISORS, MAX_PROJECTS}
-use Rattle.spa.specs.Counted.{Counted}
-use Rattle.rolls.specs.declared.entries.Supervisor.{Supervisor}
-use Rattle.rolls.specs.declared.entries.Project.{Project}
-use Rattle.rolls.specs.declared.rounds.Placement.{Placement}
+use Rattle.std.specs.Prelude.{◌≡◌, ◌+◌, ◌<◌, ◌≤◌, ◌==◌, ◌&&◌, ℕ, cond, false, List, slice_get, slice_index, Option, Some}
+use Rattle.rolls.specs.Common.{bytes_eq, MAX_SUPERVISORS, MAX_PROJECTS, Counted, SupervisorEntry as Supervisor, ProjectEntry as Project, PlacementEntry as Placement}
 use Rattle.rolls.specs.Counted.{is_made_by, offers}
 
 -- a project stands at a position of its roll, and its supervisor at one of the other, and nowhere else

@@ -1,8 +1,7 @@
 -- Why a call of the store fails, by why a call below it does.
+use Rattle.store.specs.Common.{StoreFault, Damaged, Memory, Storage}
 use Rattle.tables.specs.declared.fault.TableFault.{TableFault}
 use Rattle.tables.specs.declared.fault.TableFault.TheVariants as table
-use Rattle.store.specs.declared.fault.StoreFault.{StoreFault}
-use Rattle.store.specs.declared.fault.StoreFault.TheVariants.{Damaged, Memory, Storage}
 use Rattle.decoding.specs.declared.fault.RowsFault.{RowsFault}
 use Rattle.decoding.specs.declared.fault.RowsFault.TheVariants as rows
 

@@ -1,28 +1,11 @@
 -- For proofs alone. What the rows that are read from the tables say.
-use Rattle.std.specs.Prelude.{◌≡◌, ◌≢◌, ◌⊎◌, [], take, ◌<◌, ◌^◌, ⊤, ℕ, true, IsTrue, IsUtf8, List, map, drop, nat_lt}
-use Rattle.std.specs.List.{AllByRecursion}
-use Rattle.sqlite.specs.Order.{Row as Values}
-use Rattle.sqlite.specs.Effect.{Database}
-use Rattle.row_model.specs.declared.cell.Cell.{Cell}
-use Rattle.row_model.specs.declared.cell.Cell.TheVariants.{Text, Number, Bytes}
+use Rattle.std.specs.Prelude.{◌≡◌, ◌≢◌, ◌⊎◌, ◌<◌, ◌^◌, [], take, ⊤, ℕ, true, IsTrue, IsUtf8, List, map, drop, nat_lt}
+use Rattle.store.specs.Common.{AllByRecursion, Values, Database, AnyCell as Cell, Text, Number, Bytes, Table, Change, Cells, IsRow, RowOf, SameRows, are_of, of_table, after_changes, IsFit, rows_in, State, Edition as AnEdition, Allows, AreRowsIn, HaveNoLater, rows_in_edition, migrating_changes, Schema, Seen, IsUnchanged, Has, Place, Lists, table_at, Stands, ℕ, Option, IsUnread, Edition}
 use Rattle.row_model.specs.declared.cell.Kind.{Kind}
-use Rattle.row_model.specs.declared.table.Table.{Table}
-use Rattle.row_model.specs.declared.row.Change.{Change}
-use Rattle.row_model.specs.Rows.{Cells, IsRow, RowOf, SameRows, are_of, of_table}
-use Rattle.row_model.specs.Changes.{after_changes}
-use Rattle.rolls.specs.Fit.{IsFit}
-use Rattle.rolls.specs.Rows.{rows_in}
-use Rattle.rolls.specs.State.{State}
-use Rattle.editions.specs.declared.Edition.{Edition as AnEdition}
-use Rattle.editions.specs.Editions.{Allows, AreRowsIn, HaveNoLater, rows_in_edition, migrating_changes}
-use Rattle.store.specs.Tables.{HoldIn, StandsIn}
-use Rattle.store.specs.Inside.Migrating.{AskMigrated}
+use Rattle.store.specs.Tables.{HoldIn, StandsIn, HasNone, HasNoneOf}
+use Rattle.store.specs.Editions.{migrated, rolls_of, beyond, number_of}
+use Rattle.store.specs.Saving.{AllNeed, AreLeftAmong}
 use Rattle.store.specs.Rows.{IsAmong, values}
-use Rattle.sqlite.specs.Schema.{Schema}
-use Rattle.sqlite.specs.State.{State as Seen, IsUnchanged}
-use Rattle.sqlite_rules.specs.Lists.{Has}
-use Rattle.tables.specs.Table.{Place, Lists, table_at}
-use Rattle.tables.specs.Keyed.{Stands}
 
 -- a cell as the program has it: its text is UTF-8 and its number is of type `u32`
 abbrev pub IsTyped : Cell → Type 0
@@ -106,6 +89,10 @@ pub record HoldsRows (e : AnEdition) (rows : List RowOf) (old new : Seen) : Type
   pub holds : HoldIn e old.now (of_table rows)
   pub are : (office : State) → StandsIn e old.now office → AreRowsIn e rows office
 
+-- changes that ask of the schema no more than that no foreign key acts on the tables in which rows are replaced or taken out
+abbrev pub AskMigrated : List Change → Type 0
+AskMigrated changes = (schema : Schema) → AreLeftAmong migrated schema → AllNeed changes schema
+
 -- an office was found in the tables of an edition, with the changes that migrate them, and nothing has changed
 pub record FindsOffice (e : AnEdition) (office : State) (changes : List Change) (old new : Seen) : Type 0 where
   pub same : IsUnchanged old new
@@ -121,3 +108,15 @@ pub record FindsOffice (e : AnEdition) (office : State) (changes : List Change) 
 -- one of these tables holds columns that no row has
 abbrev pub HoldsUnread : List Table → Seen → Type 0
 HoldsUnread tables old = IsTrue old.is_open × (table : Table) × IsAmong tables table × HoldsNoRow table old.now
+
+-- one of the tables of an edition cannot be read
+pub record IsHinderedReadingIn (e : AnEdition) (limit : Option ℕ) (db : Database) : Type 0 where
+  pub table : Table
+  pub among : Has (rolls_of e) table
+  pub hindered : IsUnread (table_at table) limit db
+
+-- the edition of tables of which some are there: none of those beyond it is
+pub record IsEditionOf (e : Edition) (schema : Schema) : Type 0 where
+  pub some : HasNone schema → ⊥
+  pub alone : HasNoneOf (beyond e) schema
+  pub later : (f : Edition) → number_of f < number_of e → HasNoneOf (beyond f) schema → ⊥

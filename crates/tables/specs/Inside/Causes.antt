@@ -1,17 +1,11 @@
 -- For proofs alone. Texts that a schema understands, and what a write does where it is refused.
 use Rattle.std.specs.Prelude.{◌≡◌, ◌≤◌, ℕ, false, List, [], length, Option, None, Ok, Err}
-use Rattle.sqlite.specs.declared.error.Error.{Error}
-use Rattle.sqlite.specs.Order.{Row}
-use Rattle.sqlite.specs.Schema.{Schema}
+use Rattle.tables.specs.Common.{Error, Row, Schema, Database, Does, text_of, Enforced}
 use Rattle.sqlite.specs.Calls.{IsWrite}
 use Rattle.sqlite.specs.Command.{Command}
-use Rattle.sqlite.specs.Effect.{Database}
-use Rattle.sqlite.specs.Does.{Does}
 use Rattle.sqlite.specs.Listing.{understood}
-use Rattle.sqlite.specs.State.{text_of}
 use Rattle.sqlite.specs.declared.run.Mode.{Mode}
 use Rattle.sqlite_resolve.specs.declared.compiled.Compiled.{Compiled}
-use Rattle.sqlite_schema.specs.declared.schema.Keys.TheVariants.{Enforced}
 
 -- under this schema the text is one statement of these parameters
 pub record IsText (schema : Schema) (sql : List ℕ) (given : Row) : Type 0 where

@@ -1,11 +1,7 @@
 -- For proofs alone. Which foreign keys act where rows of a table are taken out or replaced.
-use Rattle.std.specs.Prelude.{ℕ, Bool, true, false, not, ◌&&◌, ◌||◌, ◌==◌, List}
-use Rattle.std.specs.List.{list_all, list_any}
-use Rattle.sqlite.specs.Table.{Table}
+use Rattle.std.specs.Prelude.{◌&&◌, ◌||◌, ◌==◌, ℕ, Bool, true, false, not, List}
+use Rattle.tables.specs.Common.{list_all, list_any, AnyTable as Table, NoAction, Reference, same_name}
 use Rattle.sqlite_schema.specs.declared.schema.Action.{Action}
-use Rattle.sqlite_schema.specs.declared.schema.Action.TheVariants.{NoAction}
-use Rattle.sqlite_schema.specs.declared.schema.Reference.{Reference}
-use Rattle.sqlite_schema.specs.Names.{same_name}
 
 -- a foreign key with NO ACTION, which is tested and writes nothing
 abbrev pub is_passive : Action → Bool

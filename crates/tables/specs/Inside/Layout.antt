@@ -1,21 +1,11 @@
 -- For proofs alone. Whether a table has the columns and the keys of one that is made here, and its references: it may stand in another
 -- tree, with other CHECK rules, without STRICT, and with references that name no column.
-use Rattle.std.specs.Prelude.{◌≡◌, ℕ, Bool, true, false, not, ◌&&◌, ◌||◌, ◌==◌, map, List, [], ◌∷◌, length, slice_get, Option, None, Some}
-use Rattle.std.specs.List.{list_all}
-use Rattle.std.specs.Option.{option_map_or}
-use Rattle.std.specs.Str.{bytes_eq}
-use Rattle.sqlite.specs.Kind.{Kind}
-use Rattle.sqlite.specs.Table.{Table as AnyTable}
-use Rattle.sqlite.specs.Schema.{Schema}
+use Rattle.std.specs.Prelude.{◌≡◌, ◌&&◌, ◌||◌, ◌==◌, ◌∷◌, ℕ, Bool, true, false, not, map, List, [], length, slice_get, Option, None, Some}
+use Rattle.tables.specs.Common.{list_all, option_map_or, bytes_eq, Kind, AnyTable, Schema, Order, Column, Reference, table_named, kind_code}
 use Rattle.sqlite_value.specs.declared.value.Value.{Value}
 use Rattle.sqlite_value.specs.declared.value.Value.TheVariants.{Null, Int, Real, Text as Words, Blob}
 use Rattle.sqlite_value.specs.declared.keys.Collation.{Collation}
 use Rattle.sqlite_value.specs.declared.keys.Collation.TheVariants.{Binary, NoCase, RTrim}
-use Rattle.sqlite_value.specs.declared.keys.Order.{Order}
-use Rattle.sqlite_schema.specs.declared.schema.Column.{Column}
-use Rattle.sqlite_schema.specs.declared.schema.Reference.{Reference}
-use Rattle.sqlite_schema.specs.Names.{table_named}
-use Rattle.sqlite_schema.specs.Rules.{kind_code}
 use Rattle.tables.specs.Table.{TableShape, Place, kind_in}
 use Rattle.tables.specs.Inside.Inert.{is_passive}
 

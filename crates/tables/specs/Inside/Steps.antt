@@ -1,12 +1,6 @@
 -- For proofs alone. What a statement, a transaction and a crash do, under a relation P between the database before and after.
 use Rattle.std.specs.Prelude.{◌≡◌, ◌⊎◌, ℕ, true, List, [], Result, Ok}
-use Rattle.sqlite.specs.Effect.{Database, IsDatabase}
-use Rattle.sqlite.specs.State.{State, Executes, Shown, FailsToQuery, Shows as Sees}
-use Rattle.sqlite.specs.declared.error.Error.{Error}
-use Rattle.sqlite.specs.Order.{Row}
-use Rattle.sqlite.specs.Held.{Held, state}
-use Rattle.sqlite_trees.specs.declared.store.Store.{Ghosts}
-use Rattle.tables.specs.declared.fault.TableFault.{TableFault}
+use Rattle.tables.specs.Common.{Database, IsDatabase, State, Executes, Shown, FailsToQuery, Sees, Error, Row, Held, state, Ghosts, TableFault, ℤ, rowid, id_in}
 use Rattle.tables.specs.Outcomes.{Outcome}
 use Rattle.tables.specs.Steps.{IsPart}
 use Rattle.tables.specs.Inside.Causes.{IsHindered}
@@ -36,3 +30,7 @@ IsWritten ghosts sql params result old new = IsPart (HasRun sql params) (IsHinde
 -- a query was run, or failed
 abbrev pub RanQuery : List ℕ → State → State → Type 0
 RanQuery sql old new = ((rows : List Row) × Shown sql [] old new rows) ⊎ ((e : Error) × FailsToQuery sql [] old new e)
+
+-- the rowid as a number
+abbrev pub id_of : Row → ℤ
+id_of r = id_in (rowid r)

@@ -1,14 +1,10 @@
 -- For proofs alone. The tables of the product, as a schema lists them, and the rows that they hold.
-use Rattle.std.specs.Prelude.{ℕ, List, map, codes}
+use Rattle.tables.specs.Common.{ℕ, List, map, codes, Kind, Group, Entering, InPlace, New}
 use Rattle.std.specs.Borrow.{Bor}
-use Rattle.sqlite.specs.Kind.{Kind}
 use Rattle.tables.specs.declared.table.Shape.{Shape as Given}
 use Rattle.tables.specs.declared.table.ToldColumn.{ToldColumn}
 use Rattle.tables.specs.declared.table.Link.{Link}
-use Rattle.row_model.specs.declared.row.Group.{Group}
 use Rattle.row_model.specs.declared.row.Group.TheVariants as group
-use Rattle.tables.specs.declared.statements.Entering.{Entering}
-use Rattle.tables.specs.declared.statements.Entering.TheVariants.{InPlace, New}
 use Rattle.tables.specs.Table.{TableShape, Sql, sql_of}
 
 -- what the program declares of a column

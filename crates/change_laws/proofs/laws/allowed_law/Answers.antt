@@ -1,4 +1,4 @@
-use Rattle.std.proofs.Common.{arith}
+use Rattle.change_laws.proofs.Common.{arith}
 use Rattle.change_laws.proofs.ImportAllowed.{import_allowed, import_few}
 use Rattle.change_laws.proofs.PlainAllowed.{changes_allowed, few_changes}
 use Rattle.change_laws.proofs.laws.allowed_law.Goals as goal

@@ -1,4 +1,4 @@
-use Rattle.std.proofs.Common.{◌≡◌, take}
+use Rattle.change_laws.proofs.Common.{◌≡◌, take}
 use Rattle.change_laws.specs.Changes as says
 use Rattle.change_laws.proofs.making.kept_placements.Given as goal
 

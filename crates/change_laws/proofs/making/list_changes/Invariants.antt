@@ -1,4 +1,4 @@
-use Rattle.std.proofs.Common.{◌≡◌, suc, ◌++◌, drop}
+use Rattle.change_laws.proofs.Common.{◌≡◌, suc, ◌++◌, drop}
 use Rattle.rolls.specs.Making as says
 use Rattle.change_laws.proofs.making.list_changes.Given as goal
 

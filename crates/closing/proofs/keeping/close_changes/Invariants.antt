@@ -1,5 +1,4 @@
-use Rattle.std.proofs.Common.{◌≡◌, ◌++◌, map, drop}
-use Rattle.closing.proofs.Common.{closing_changes, placement_added}
+use Rattle.closing.proofs.Common.{closing_changes, placement_added, ◌≡◌, ◌++◌, map, drop}
 use Rattle.closing.proofs.keeping.close_changes.Given as goal
 
 abbrev pub invariant-loop-placement : goal.invariant-loop-placement

@@ -1,5 +1,4 @@
-use Rattle.std.proofs.Common.{◌≡◌}
-use Rattle.closing.proofs.Common.{put_all, placement_key}
+use Rattle.closing.proofs.Common.{put_all, placement_key, ◌≡◌}
 use Rattle.closing.proofs.keeping.placements_after.Given as goal
 
 abbrev pub invariant-loop-placement : goal.invariant-loop-placement

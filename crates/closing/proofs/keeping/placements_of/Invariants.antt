@@ -1,5 +1,4 @@
-use Rattle.std.proofs.Common.{◌≡◌, ◌++◌, drop}
-use Rattle.closing.proofs.Common.{placed_by}
+use Rattle.closing.proofs.Common.{placed_by, ◌≡◌, ◌++◌, drop}
 use Rattle.closing.proofs.keeping.placements_of.Given as goal
 
 abbrev pub invariant-loop-student : goal.invariant-loop-student

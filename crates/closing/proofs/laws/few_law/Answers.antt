@@ -1,5 +1,4 @@
-use Rattle.std.proofs.Common.{arith}
-use Rattle.closing.proofs.Common.{few_placed, few_lists}
+use Rattle.closing.proofs.Common.{few_placed, few_lists, arith}
 use Rattle.closing.proofs.laws.few_law.Goals as goal
 
 pub returns : goal.returns

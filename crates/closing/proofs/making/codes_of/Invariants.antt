@@ -1,4 +1,4 @@
-use Rattle.std.proofs.Common.{◌≡◌, ◌++◌, drop}
+use Rattle.closing.proofs.Common.{◌≡◌, ◌++◌, drop}
 use Rattle.closing.proofs.making.codes_of.Given as goal
 
 abbrev pub invariant-loop-code : goal.invariant-loop-code

@@ -1,5 +1,4 @@
-use Rattle.std.proofs.Common.{◌≡◌, ℕ, ◌++◌, List, Option, map, drop}
-use Rattle.closing.proofs.Common.{Supervisor, Placement, AreCounted, project_left}
+use Rattle.closing.proofs.Common.{Supervisor, Placement, AreCounted, project_left, ◌≡◌, ℕ, ◌++◌, List, Option, map, drop}
 use Rattle.closing.proofs.making.projects_left.Given as goal
 
 abbrev pub invariant-loop-position : goal.invariant-loop-position

@@ -1,11 +1,7 @@
-use Rattle.std.proofs.Common.{List, map, length, arith, true≢false, sym, ap, ◌∙◌, subst}
-use Rattle.closing.proofs.Common.{Instance, IsFirstInstanceFault, Project, Placement, count_in, count_with, supervisor_left, project_left, few_placed}
-use Rattle.closing.proofs.RoundInstance.{instance_accepted, handed_rolls, parts_rolls}
+use Rattle.closing.proofs.Common.{Instance, IsFirstInstanceFault, Project, Placement, count_in, count_with, supervisor_left, project_left, few_placed, List, map, length, arith, true≢false, sym, ap, ◌∙◌, subst}
+use Rattle.closing.proofs.RoundInstance.{instance_accepted, handed_rolls}
 use Rattle.closing.proofs.making.round_instance.Goals as goal
 use Rattle.closing.proofs.making.round_instance.Goals.{in-Memory, in_default}
-
-pub counted-counts-requires-clause-rolls : goal.counted-counts-requires-clause-rolls
-counted-counts-requires-clause-rolls c = parts_rolls c.args.supervisors.now c.args.projects.now c.entries-roll.result.now c.args.placements.now c.args.lists.now c.requires c.entries-roll.ensures.all
 
 pub counted-counts-requires-clause-few : goal.counted-counts-requires-clause-few
 counted-counts-requires-clause-few c =
@@ -13,16 +9,6 @@ counted-counts-requires-clause-few c =
     let few = few_placed are.office are.fit in
     let same = ap (λ (ps : List Placement). length ps) are.parts.all_placements in
     omega (arith, few, are.fit.students.few, same)
-
-pub supervisors_left-requires : goal.supervisors_left-requires
-supervisors_left-requires c =
-    let rolls = parts_rolls c.args.supervisors.now c.args.projects.now c.entries-roll.result.now c.args.placements.now c.args.lists.now c.requires c.entries-roll.ensures.all in
-    rolls.few_supervisors
-
-pub projects_left-requires : goal.projects_left-requires
-projects_left-requires c =
-    let rolls = parts_rolls c.args.supervisors.now c.args.projects.now c.entries-roll.result.now c.args.placements.now c.args.lists.now c.requires c.entries-roll.ensures.all in
-    rolls.few_projects
 
 pub prove-unreachable-requires : goal.prove-unreachable-requires
 prove-unreachable-requires c =

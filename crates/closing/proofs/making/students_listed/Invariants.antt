@@ -1,5 +1,4 @@
-use Rattle.std.proofs.Common.{◌≡◌, ◌++◌, map, drop}
-use Rattle.closing.proofs.Common.{student_listed}
+use Rattle.closing.proofs.Common.{student_listed, ◌≡◌, ◌++◌, map, drop}
 use Rattle.closing.proofs.making.students_listed.Given as goal
 
 abbrev pub invariant-loop-listed : goal.invariant-loop-listed

@@ -1,5 +1,4 @@
-use Rattle.std.proofs.Common.{length, refl, ap, ◌∙◌, ◌-◌}
-use Rattle.closing.proofs.Common.{slice_get_read, supervisor_left}
+use Rattle.closing.proofs.Common.{slice_get_read, supervisor_left, length, refl, ap, ◌∙◌, ◌-◌}
 use Rattle.closing.proofs.RoundInstance.{handed_step}
 use Rattle.closing.proofs.making.supervisors_left.Goals as goal
 

@@ -1,5 +1,4 @@
-use Rattle.std.proofs.Common.{◌≡◌, ℕ, ◌++◌, List, Option, map, drop}
-use Rattle.closing.proofs.Common.{Project, Placement, AreCounted, supervisor_left}
+use Rattle.closing.proofs.Common.{Project, Placement, AreCounted, supervisor_left, ◌≡◌, ℕ, ◌++◌, List, Option, map, drop}
 use Rattle.closing.proofs.making.supervisors_left.Given as goal
 
 abbrev pub invariant-loop-position : goal.invariant-loop-position

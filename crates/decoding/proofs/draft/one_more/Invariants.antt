@@ -1,4 +1,4 @@
-use Rattle.std.proofs.Common.{◌≡◌, ◌++◌, drop}
+use Rattle.decoding.proofs.Common.{◌≡◌, ◌++◌, drop}
 use Rattle.decoding.proofs.draft.one_more.Given as goal
 
 abbrev pub invariant-loop-code : goal.invariant-loop-code

@@ -1,5 +1,4 @@
-use Rattle.std.proofs.Common.{◌≡◌, sym, ap, true, ◌∙◌}
-use Rattle.decoding.proofs.Common.{is_whole, drafted}
+use Rattle.decoding.proofs.Common.{is_whole, drafted, ◌≡◌, sym, ap, true, ◌∙◌}
 use Rattle.decoding.proofs.Gathered.{gathered_drafted, gathered_rows}
 use Rattle.decoding.proofs.Takes.{gathered_is, unread_unfit}
 use Rattle.decoding.proofs.Faults.{handed_on}

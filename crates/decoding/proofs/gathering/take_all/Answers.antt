@@ -1,5 +1,4 @@
-use Rattle.std.proofs.Common.{◌≡◌, suc, ◌+◌, ◌-◌, ◌∙◌, arith}
-use Rattle.decoding.proofs.Common.{RANKS, drafted}
+use Rattle.decoding.proofs.Common.{RANKS, drafted, ◌≡◌, suc, ◌+◌, ◌-◌, ◌∙◌, arith}
 use Rattle.decoding.proofs.Faults.{handed_on}
 use Rattle.decoding.proofs.Gathered.{gathered_on, gathered_off}
 use Rattle.decoding.proofs.gathering.take_all.Goals as goal

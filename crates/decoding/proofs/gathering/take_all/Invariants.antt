@@ -1,5 +1,4 @@
-use Rattle.std.proofs.Common.{◌≡◌, ℕ, ◌+◌}
-use Rattle.decoding.proofs.Common.{RANKS, empty, stages, staged, gathered, drafted}
+use Rattle.decoding.proofs.Common.{RANKS, empty, stages, staged, gathered, drafted, ◌≡◌, ℕ, ◌+◌}
 use Rattle.decoding.proofs.gathering.take_all.Given as goal
 
 abbrev pub invariant-loop-stage : goal.invariant-loop-stage

@@ -1,5 +1,4 @@
-use Rattle.std.proofs.Common.{◌≡◌, drop}
-use Rattle.decoding.proofs.Common.{at_stage, gathered, drafted}
+use Rattle.decoding.proofs.Common.{at_stage, gathered, drafted, ◌≡◌, drop}
 use Rattle.decoding.proofs.gathering.take_stage.Given as goal
 
 abbrev pub invariant-loop-row : goal.invariant-loop-row

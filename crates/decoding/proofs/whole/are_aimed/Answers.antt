@@ -1,6 +1,4 @@
-use Rattle.std.proofs.Common.{◌≡◌, ◌≢◌, Bool, true, false, List, [], ◌∷◌, length, refl, sym, arith}
-use Rattle.decoding.proofs.Common.{◌==◌, ◌&&◌, Round, are_aimed}
-use Rattle.rolls.specs.declared.rounds.RoundAim.{RoundAim}
+use Rattle.decoding.proofs.Common.{◌==◌, ◌&&◌, Round, are_aimed, ◌≡◌, ◌≢◌, Bool, true, false, List, [], ◌∷◌, length, refl, sym, arith, AimEntry as RoundAim}
 use Rattle.decoding.proofs.whole.are_aimed.Goals as goal
 
 and_false : (b c : Bool) → c ≡ false → (b && c) ≡ false

@@ -1,5 +1,4 @@
-use Rattle.std.proofs.Common.{◌≡◌, drop}
-use Rattle.decoding.proofs.Common.{are_aimed}
+use Rattle.decoding.proofs.Common.{are_aimed, ◌≡◌, drop}
 use Rattle.decoding.proofs.whole.are_aimed.Given as goal
 
 abbrev pub invariant-loop-i : goal.invariant-loop-i

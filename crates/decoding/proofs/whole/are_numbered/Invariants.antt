@@ -1,5 +1,4 @@
-use Rattle.std.proofs.Common.{◌≡◌, suc, drop}
-use Rattle.decoding.proofs.Common.{are_numbered}
+use Rattle.decoding.proofs.Common.{are_numbered, ◌≡◌, suc, drop}
 use Rattle.decoding.proofs.whole.are_numbered.Given as goal
 
 abbrev pub invariant-loop-i : goal.invariant-loop-i

@@ -1,5 +1,4 @@
-use Rattle.std.proofs.Common.{◌≡◌, drop}
-use Rattle.decoding.proofs.Common.{is_distinct}
+use Rattle.decoding.proofs.Common.{is_distinct, ◌≡◌, drop}
 use Rattle.decoding.proofs.whole.is_distinct.Given as goal
 
 abbrev pub invariant-loop-i : goal.invariant-loop-i

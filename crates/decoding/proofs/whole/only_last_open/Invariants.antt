@@ -1,5 +1,4 @@
-use Rattle.std.proofs.Common.{◌≡◌, drop}
-use Rattle.decoding.proofs.Common.{only_last_open}
+use Rattle.decoding.proofs.Common.{only_last_open, ◌≡◌, drop}
 use Rattle.decoding.proofs.GoesOn.{goes_on}
 use Rattle.decoding.proofs.whole.only_last_open.Given as goal
 

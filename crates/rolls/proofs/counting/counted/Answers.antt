@@ -1,24 +1,6 @@
-use Rattle.std.proofs.Common.{arith, sym, ap, ◌∙◌, ℕ, ◌+◌, cond}
-use Rattle.rolls.proofs.Common.{◌&&◌, bytes_eq, Placement, is_made_by, offers}
+use Rattle.rolls.proofs.Common.{◌&&◌, bytes_eq, Placement, is_made_by, offers, arith, sym, ap, ◌∙◌, ℕ, ◌+◌, cond}
 use Rattle.rolls.proofs.Positions.{count_one_more}
 use Rattle.rolls.proofs.counting.counted.Goals as goal
-
-pub loop-placement-init : goal.loop-placement-init
-loop-placement-init c = record {
-  counted = record { in_project = λ k e is. c.new-counts.ensures.projects k; with_supervisor = λ k s is. c.new-counts.ensures.supervisors k };
-  few_in_project = λ k. let e = c.new-counts.ensures.projects k in omega (arith, e);
-  few_with_supervisor = λ k. let e = c.new-counts.ensures.supervisors k in omega (arith, e);
-}
-
-pub count-requires-clause-in_project : goal.count-requires-clause-in_project
-count-requires-clause-in_project c k =
-    let few = c.loop-placement.invariant.few_in_project k in
-    omega (arith, few, c.requires.few, c.loop-placement-test.true)
-
-pub count-requires-clause-with_supervisor : goal.count-requires-clause-with_supervisor
-count-requires-clause-with_supervisor c k =
-    let few = c.loop-placement.invariant.few_with_supervisor k in
-    omega (arith, few, c.requires.few, c.loop-placement-test.true)
 
 pub loop-placement-preserved : goal.loop-placement-preserved
 loop-placement-preserved c =

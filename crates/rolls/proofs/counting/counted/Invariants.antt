@@ -1,5 +1,4 @@
-use Rattle.std.proofs.Common.{ℕ, ◌≤◌, take, slice_index}
-use Rattle.rolls.proofs.Common.{AreCounted}
+use Rattle.rolls.proofs.Common.{AreCounted, ℕ, ◌≤◌, take, slice_index}
 use Rattle.rolls.proofs.counting.counted.Given as goal
 
 abbrev pub invariant-loop-placement : goal.invariant-loop-placement

@@ -1,5 +1,4 @@
-use Rattle.std.proofs.Common.{List, ℕ, length, refl, sym, ap, subst, ◌∙◌}
-use Rattle.rolls.proofs.Common.{slice_get_read, Project, supervisor_key, IsAt}
+use Rattle.rolls.proofs.Common.{slice_get_read, Project, supervisor_key, IsAt, List, ℕ, length, refl, sym, ap, subst, ◌∙◌}
 use Rattle.rolls.proofs.Positions.{both_found, none_found_there}
 use Rattle.rolls.proofs.counting.positions.Goals as goal
 

@@ -1,5 +1,4 @@
-use Rattle.std.proofs.Common.{◌≡◌, ◌↔◌, false, List, subst}
-use Rattle.store.proofs.Common.{Table, AreActedOnAmong, AreLeftAmong}
+use Rattle.store.proofs.Common.{Table, AreActedOnAmong, AreLeftAmong, ◌≡◌, ◌↔◌, List, subst, false}
 use Rattle.store.proofs.quiet.are_left.Goals as goal
 
 pub returns-clause-sound : goal.returns-clause-sound

@@ -1,5 +1,4 @@
-use Rattle.std.proofs.Common.{◌≡◌, length, true≢false, refl, sym, ◌∙◌, arith}
-use Rattle.store.proofs.Common.{Has, Table, IsLeftAlone, IsActedOnAt}
+use Rattle.store.proofs.Common.{Has, Table, IsLeftAlone, IsActedOnAt, ◌≡◌, length, true≢false, refl, sym, ◌∙◌, arith}
 use Rattle.store.proofs.ListedTables.{so_far, of_each, is_next}
 use Rattle.store.proofs.Among.{is_among, stands_among}
 use Rattle.store.proofs.quiet.are_left_among.Goals as goal

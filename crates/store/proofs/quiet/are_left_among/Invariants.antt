@@ -1,5 +1,4 @@
-use Rattle.std.proofs.Common.{take}
-use Rattle.store.proofs.Common.{Has, Table, IsLeftAlone, IsActedOnAt}
+use Rattle.store.proofs.Common.{Has, Table, IsLeftAlone, IsActedOnAt, take}
 use Rattle.store.proofs.quiet.are_left_among.Given as goal
 
 abbrev pub invariant-loop-table : goal.invariant-loop-table

@@ -1,4 +1,4 @@
-use Rattle.std.proofs.Common.{rules}
+use Rattle.store.proofs.Common.{rules}
 use Rattle.store.proofs.Inertness.{acted_there, acted_nowhere, left_nowhere}
 use Rattle.store.proofs.quiet.is_left.Goals as goal
 

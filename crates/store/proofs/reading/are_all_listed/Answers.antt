@@ -1,5 +1,4 @@
-use Rattle.std.proofs.Common.{◌≡◌, length, refl, arith}
-use Rattle.store.proofs.Common.{IsListedAlone}
+use Rattle.store.proofs.Common.{IsListedAlone, ◌≡◌, length, refl, arith}
 use Rattle.store.proofs.ListedTables.{no_edition, so_far, of_each, is_next, listed_right, listed_each}
 use Rattle.store.proofs.Among.{is_among, stands_among}
 use Rattle.store.proofs.reading.are_all_listed.Goals as goal

@@ -1,5 +1,4 @@
-use Rattle.std.proofs.Common.{take}
-use Rattle.store.proofs.Common.{Has, Table, IsListedAlone}
+use Rattle.store.proofs.Common.{Has, Table, IsListedAlone, take}
 use Rattle.store.proofs.reading.are_all_listed.Given as goal
 
 abbrev pub invariant-loop-table : goal.invariant-loop-table

@@ -1,5 +1,4 @@
-use Rattle.std.proofs.Common.{◌≡◌, ◌∙◌, pos, ap, sym, arith}
-use Rattle.store.proofs.Common.{nat_tests, Int, column, number_of}
+use Rattle.store.proofs.Common.{nat_tests, Int, column, number_of, ◌≡◌, ◌∙◌, pos, ap, sym, arith}
 use Rattle.store.proofs.ReadRows.{is_numbered}
 use Rattle.store.proofs.reading.are_numbered.Goals.{then-column_count-eq3, else-column_count-eq3}
 use Rattle.store.proofs.reading.are_numbered.Goals as goal

@@ -1,5 +1,4 @@
-use Rattle.std.proofs.Common.{◌≡◌, ◌≢◌, length, arith}
-use Rattle.store.proofs.Common.{IsElsewhere}
+use Rattle.store.proofs.Common.{IsElsewhere, ◌≡◌, ◌≢◌, length, arith}
 use Rattle.store.proofs.ListedTables.{so_far, of_each, is_next, not_alone}
 use Rattle.store.proofs.Among.{is_among, stands_among}
 use Rattle.store.proofs.reading.is_alone.Goals as goal

@@ -1,5 +1,4 @@
-use Rattle.std.proofs.Common.{◌≢◌, take}
-use Rattle.store.proofs.Common.{Has, Table, IsElsewhere}
+use Rattle.store.proofs.Common.{Has, Table, IsElsewhere, ◌≢◌, take}
 use Rattle.store.proofs.reading.is_alone.Given as goal
 
 abbrev pub invariant-loop-other : goal.invariant-loop-other

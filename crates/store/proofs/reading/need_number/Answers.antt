@@ -1,4 +1,4 @@
-use Rattle.std.proofs.Common.{rules}
+use Rattle.store.proofs.Common.{rules}
 use Rattle.store.proofs.reading.need_number.Goals as goal
 
 pub returns-else-are_numbered-clause-err : goal.returns-else-are_numbered-clause-err

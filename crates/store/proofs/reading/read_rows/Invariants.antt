@@ -1,5 +1,5 @@
-use Rattle.std.proofs.Common.{◌≡◌, false}
-use Rattle.store.proofs.Common.{HasCleanDisk, Survives, state, Rests, ReadsSome}
+use Rattle.store.specs.Inside.Reading.{IsHinderedReadingIn}
+use Rattle.store.proofs.Common.{HasCleanDisk, state, IsReading, ReadsSome, Storage, Ok}
 use Rattle.store.proofs.reading.read_rows.Given as goal
 
 abbrev pub invariant-loop-table : goal.invariant-loop-table
@@ -7,8 +7,6 @@ invariant-loop-table g l =
     let old = state g.S.Store l.fn.conn in
     let now = state g.S.Store l.conn in
     record {
-      survives : Survives old now (λ _. ⊥);
-      mode : l.fn.conn.in_transaction ≡ false → l.conn.in_transaction ≡ false;
-      rests : HasCleanDisk now → Rests old now;
+      reading : IsReading {A = Unit {0}} Storage (IsHinderedReadingIn l.fn.edition) (Ok tt) old now;
       reads : HasCleanDisk now → ReadsSome l.tables l.table-index l.rows.items old now;
     }

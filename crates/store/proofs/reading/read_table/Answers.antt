@@ -1,5 +1,5 @@
-use Rattle.std.proofs.Common.{Err, sym, ap, subst, ◌∙◌}
-use Rattle.store.proofs.Common.{Has}
+use Rattle.store.proofs.Common.{Has, Err, sym, ap, subst, ◌∙◌}
+use Rattle.store.proofs.Readings.{reads_as, reads_past}
 use Rattle.store.proofs.Causes.{of_storage}
 use Rattle.store.proofs.ListedTables.{holds_none}
 use Rattle.store.proofs.reading.read_table.Goals as goal
@@ -10,10 +10,9 @@ returns-clause-damaged g c clean h =
     let shows = c.in_ok-cells.ensures.rows clean in
     (shows.same.0.was_open, holds_none _ _ found.0 _ _ shows (subst (λ all. Has all found.0) c.as_slice.ensures.value found.1) found.2)
 
-pub returns-clause-cause : goal.returns-clause-cause
-returns-clause-cause g c clean h = absurd (c.rows_with.ensures.faults h)
+pub returns-clause-reads : goal.returns-clause-reads
+returns-clause-reads g c = reads_past _ _ _ _ _ _ _ _ c.rows_with.ensures.faults c.in_ok-cells.ensures.reads
 
-pub returns-in_err-cells-clause-cause : goal.returns-in_err-cells-clause-cause
-returns-in_err-cells-clause-cause g c clean h =
-    let gives = rw h at c.from_residual.ensures.1 in
-    c.read.ensures.cause clean (c.in_err-cells.was ∙ ap Err (of_storage _ (sym gives)))
+pub returns-in_err-cells-clause-reads : goal.returns-in_err-cells-clause-reads
+returns-in_err-cells-clause-reads g c =
+    reads_as _ _ _ _ _ _ _ (λ h. c.in_err-cells.was ∙ ap Err (of_storage _ (sym (rw h at c.from_residual.ensures.1)))) c.read.ensures.reads

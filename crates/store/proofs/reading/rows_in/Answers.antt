@@ -1,9 +1,9 @@
-use Rattle.std.proofs.Common.{◌≡◌, ◌≢◌, inl, refl, sym, ap, ◌∙◌, Err, List, map, drop, subst, arith, rules}
-use Rattle.store.proofs.Common.{Values, HasCleanDisk, state, rests_then, survives_both, Edition, Damaged, Storage, number_of, rolls_of, numbered, AreAllListed}
+use Rattle.store.proofs.Common.{Values, HasCleanDisk, state, IsHinderedReading, Edition, Damaged, Storage, number_of, rolls_of, numbered, AreAllListed, ◌≡◌, ◌≢◌, inl, refl, sym, ap, ◌∙◌, Err, List, map, drop, subst, arith, rules}
 use Rattle.store.proofs.AllRows.{none_back, holds_back, unchanged_then}
-use Rattle.store.proofs.Causes.{hindered_reading, of_storage, rows_unread}
+use Rattle.store.proofs.Causes.{of_storage, rows_unread}
 use Rattle.store.proofs.Among.{none_later}
 use Rattle.store.proofs.ReadRows.{are_in, other_number, stood, unlisted, unread}
+use Rattle.store.proofs.Readings.{reads_as, reads_nothing, reads_ok, reads_past, reads_then}
 use Rattle.store.proofs.reading.rows_in.Goals as goal
 
 pub returns-then-not-are_all_listed-clause-damaged : goal.returns-then-not-are_all_listed-clause-damaged
@@ -21,14 +21,14 @@ pub returns-in_err-rows-clause-damaged : goal.returns-in_err-rows-clause-damaged
 returns-in_err-rows-clause-damaged g c clean h =
     let was : c.read_rows.result ≡ Err Damaged = search rules in
     let found = c.read_rows.ensures.damaged clean was in
-    let early : HasCleanDisk (state g.S.Store c.read.new.conn) = omega (arith, c.read_rows.ensures.survives.clean) in
+    let early : HasCleanDisk (state g.S.Store c.read.new.conn) = omega (arith, c.read_rows.ensures.reads.survives.clean) in
     let shows = c.in_ok-number.ensures.rows early in
     unread (state g.S.Store c.args.conn.now) c.schema.ensures.live shows.same.0.was_open c.args.edition found.1 found.2 (none_back found.1 _ _ shows.same.0.now_is found.3)
 
 pub returns-clause-rows : goal.returns-clause-rows
 returns-clause-rows g c clean =
     let old = state g.S.Store c.args.conn.now in
-    let early : HasCleanDisk (state g.S.Store c.read.new.conn) = omega (arith, c.read_rows.ensures.survives.clean) in
+    let early : HasCleanDisk (state g.S.Store c.read.new.conn) = omega (arith, c.read_rows.ensures.reads.survives.clean) in
     let shows = c.in_ok-number.ensures.rows early in
     let all = c.in_ok-rows.ensures.rows clean in
     let listed = subst (AreAllListed (rolls_of c.args.edition)) c.schema.ensures.value (subst (λ tables. AreAllListed tables c.schema.result.now) c.rolls_of.ensures (c.are_all_listed.ensures.right c.if-not-are_all_listed.false)) in
@@ -41,34 +41,28 @@ returns-clause-rows g c clean =
       are = are_in old c.schema.ensures.live shows.same.0.was_open c.args.edition rows (λ table among. holds_back table _ _ _ shows.same.0.now_is (all.holds table among)) all.others;
     }
 
-pub returns-in_err-rows-clause-rests : goal.returns-in_err-rows-clause-rests
-returns-in_err-rows-clause-rests g c clean =
-    let mid = state g.S.Store c.read.new.conn in
-    let early : HasCleanDisk mid = omega (arith, c.read_rows.ensures.survives.clean) in
-    rests_then (state g.S.Store c.args.conn.now) mid (state g.S.Store c.read_rows.new.conn) (c.in_ok-number.ensures.rests early) (c.read_rows.ensures.rests clean)
+pub returns-then-not-are_all_listed-clause-reads : goal.returns-then-not-are_all_listed-clause-reads
+returns-then-not-are_all_listed-clause-reads g c = reads_past _ _ _ _ _ _ _ _ (λ is. absurd (cc)) (reads_nothing Damaged IsHinderedReading (state g.S.Store c.args.conn.now))
 
-pub returns-in_err-rows-clause-survives : goal.returns-in_err-rows-clause-survives
-returns-in_err-rows-clause-survives g c = survives_both _ _ _ c.in_ok-number.ensures.survives c.read_rows.ensures.survives
-
-pub returns-clause-rests : goal.returns-clause-rests
-returns-clause-rests g c clean =
-    let mid = state g.S.Store c.read.new.conn in
-    let early : HasCleanDisk mid = omega (arith, c.read_rows.ensures.survives.clean) in
-    rests_then (state g.S.Store c.args.conn.now) mid (state g.S.Store c.read_rows.new.conn) (c.in_ok-number.ensures.rests early) (c.in_ok-rows.ensures.rests clean)
-
-pub returns-clause-survives : goal.returns-clause-survives
-returns-clause-survives g c = survives_both _ _ _ c.in_ok-number.ensures.survives c.in_ok-rows.ensures.survives
-
-pub returns-in_err-number-clause-cause : goal.returns-in_err-number-clause-cause
-returns-in_err-number-clause-cause g c clean h =
-    let gives = rw h at c.from_residual.ensures.1 in
+pub returns-in_err-number-clause-reads : goal.returns-in_err-number-clause-reads
+returns-in_err-number-clause-reads g c =
     let listed = subst (AreAllListed (rolls_of c.args.edition)) c.schema.ensures.value (subst (λ tables. AreAllListed tables c.schema.result.now) c.rolls_of.ensures (c.are_all_listed.ensures.right c.if-not-are_all_listed.false)) in
-    hindered_reading c.args.edition Edition (state g.S.Store c.args.conn.now) _ listed (inl refl) (c.read.ensures.cause clean (c.in_err-number.was ∙ ap Err (of_storage _ (sym gives))))
+    let old = state g.S.Store c.args.conn.now in
+    reads_then Storage Storage IsHinderedReading _ _ _ _ old old _ (reads_nothing Storage IsHinderedReading old)
+    (reads_as _ _ _ _ _ _ _ (λ h. c.in_err-number.was ∙ ap Err (of_storage _ (sym (rw h at c.from_residual.ensures.1)))) c.read.ensures.reads)
+    (λ clean up h. record { edition = c.args.edition; listed = listed; table = Edition; among = inl refl; hindered = h })
 
-pub returns-in_err-rows-clause-cause : goal.returns-in_err-rows-clause-cause
-returns-in_err-rows-clause-cause g c clean h =
-    let was : c.read_rows.result ≡ Err Storage = search rules in
-    let early : HasCleanDisk (state g.S.Store c.read.new.conn) = omega (arith, c.read_rows.ensures.survives.clean) in
-    let shows = c.in_ok-number.ensures.rows early in
+pub returns-in_err-need_number-clause-reads : goal.returns-in_err-need_number-clause-reads
+returns-in_err-need_number-clause-reads g c = reads_past _ _ _ _ _ _ _ _ (λ is. search rules) c.in_ok-number.ensures.reads
+
+pub returns-in_err-rows-clause-reads : goal.returns-in_err-rows-clause-reads
+returns-in_err-rows-clause-reads g c =
+    let old = state g.S.Store c.args.conn.now in
+    let mid = state g.S.Store c.read.new.conn in
     let listed = subst (AreAllListed (rolls_of c.args.edition)) c.schema.ensures.value (subst (λ tables. AreAllListed tables c.schema.result.now) c.rolls_of.ensures (c.are_all_listed.ensures.right c.if-not-are_all_listed.false)) in
-    rows_unread c.args.edition (state g.S.Store c.args.conn.now) _ _ listed shows.same c.in_ok-number.ensures.survives early c.read_rows.ensures.survives.counts (c.read_rows.ensures.cause clean was)
+    reads_then _ _ _ _ _ _ _ old mid _ c.in_ok-number.ensures.reads (reads_as _ _ _ _ _ mid _ (λ h. let was : c.read_rows.result ≡ Err Storage = search rules in was) c.read_rows.ensures.reads)
+    (λ clean up h. rows_unread c.args.edition _ old.now mid.now listed (c.in_ok-number.ensures.rows clean).same.0.now_is h)
+
+pub returns-clause-reads : goal.returns-clause-reads
+returns-clause-reads g c =
+    reads_then _ Storage _ (λ _ _. ⊥) _ _ _ (state g.S.Store c.args.conn.now) (state g.S.Store c.read.new.conn) _ c.in_ok-number.ensures.reads (reads_ok _ _ _ _ _ _ _ _ c.in_ok-rows.ensures.reads) (λ clean up h. absurd h)

@@ -1,5 +1,4 @@
-use Rattle.std.proofs.Common.{rules}
-use Rattle.store.proofs.Common.{Text, Bytes}
+use Rattle.store.proofs.Common.{Text, Bytes, rules}
 use Rattle.store.proofs.rows.cell_at.Goals as goal
 
 pub returns-in_err-text-in-Text-Text-clause-memory : goal.returns-in_err-text-in-Text-Text-clause-memory

@@ -1,5 +1,4 @@
-use Rattle.std.proofs.Common.{◌≡◌, Err, rules}
-use Rattle.store.proofs.Common.{has_at, Damaged}
+use Rattle.store.proofs.Common.{has_at, Damaged, ◌≡◌, Err, rules}
 use Rattle.store.proofs.rows.rows_with.Goals as goal
 
 pub returns-in_err-row_with-clause-damaged : goal.returns-in_err-row_with-clause-damaged

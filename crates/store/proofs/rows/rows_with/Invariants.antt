@@ -1,5 +1,4 @@
-use Rattle.std.proofs.Common.{take}
-use Rattle.store.proofs.Common.{AreReadRows}
+use Rattle.store.proofs.Common.{AreReadRows, take}
 use Rattle.store.proofs.rows.rows_with.Given as goal
 
 abbrev pub invariant-loop-columns : goal.invariant-loop-columns

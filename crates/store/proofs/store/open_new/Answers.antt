@@ -1,20 +1,18 @@
-use Rattle.std.proofs.Common.{◌≡◌, Err, inl, rules}
-use Rattle.store.specs.Causes.{creating}
-use Rattle.store.proofs.Common.{survives_weaker, Storage, stopped_as, IsHinderedOpening}
+use Rattle.store.proofs.Common.{survives_weaker, Storage, stopped_as, IsHinderedOpening, ◌≡◌, Err, inl, rules, creating}
 use Rattle.store.proofs.NewTables.{opens_new, founds_left, founds_others, founds_ours}
 use Rattle.store.proofs.Opening.{unopened_by}
 use Rattle.store.proofs.store.open_new.Goals as goal
 
-pub returns-in_err-create_tables-clause-unopened : goal.returns-in_err-create_tables-clause-unopened
-returns-in_err-create_tables-clause-unopened g c = unopened_by _ _ _ (record {
-  damaged = λ clean is. absurd (c.create_tables.ensures.faults (search rules));
-  some = λ is. absurd (c.create_tables.ensures.faults (search rules));
+pub returns-in_err-transact-clause-unopened : goal.returns-in_err-transact-clause-unopened
+returns-in_err-transact-clause-unopened g c = unopened_by _ _ _ (record {
+  damaged = λ clean is. absurd (c.transact.ensures.faults (search rules));
+  some = λ is. absurd (c.transact.ensures.faults (search rules));
   kept = λ clean. search rules;
   cause = λ settled clean h.
-      let was : c.create_tables.result ≡ Err Storage = search rules in
-      stopped_as creating.hinders IsHinderedOpening _ _ (λ it. inl (c.requires.none, it)) (c.create_tables.ensures.cause settled clean was);
-  given_back = λ settled. c.create_tables.ensures.ended settled;
-  crash = survives_weaker _ _ _ _ (λ clean trees h. founds_left _ trees c.requires.none h) c.create_tables.ensures.crash;
+      let was : c.transact.result ≡ Err Storage = search rules in
+      stopped_as creating.hinders IsHinderedOpening _ _ (λ it. inl (c.requires.none, it)) (c.transact.ensures.cause settled clean was);
+  given_back = λ settled. c.transact.ensures.safe.ended settled;
+  crash = survives_weaker _ _ _ _ (λ clean trees h. founds_left _ trees c.requires.none h) c.transact.ensures.safe.crash;
 })
 
 -- That they were made is searched for, so that a body that makes none is refused at it.
@@ -23,10 +21,10 @@ returns-clause-opened g c = record {
   office = λ clean. opens_new _ _ _ c.requires.none c.new.ensures.empty (search rules);
   ours = λ clean. founds_ours _ _ (search rules);
   others = λ clean. founds_others _ _ (search rules);
-  ended = c.create_tables.ensures.ended c.requires.idle;
+  ended = c.transact.ensures.safe.ended c.requires.idle;
   alone = λ clean trees h. search rules;
   is_open = λ clean. search rules;
-  crash = survives_weaker _ _ _ _ (λ clean trees h. founds_left _ trees c.requires.none h) c.create_tables.ensures.crash;
+  crash = survives_weaker _ _ _ _ (λ clean trees h. founds_left _ trees c.requires.none h) c.transact.ensures.safe.crash;
 }
 
 pub returns-clause-unopened : goal.returns-clause-unopened

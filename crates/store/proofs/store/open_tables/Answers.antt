@@ -1,6 +1,4 @@
-use Rattle.std.proofs.Common.{◌≡◌, ◌≢◌, subst, rules}
-use Rattle.store.proofs.Common.{state, latest, IsEditionOf, HasNone}
-use Rattle.editions.specs.declared.Edition.{Edition}
+use Rattle.store.proofs.Common.{state, latest, IsEditionOf, HasNone, ◌≡◌, ◌≢◌, subst, rules, AnEdition as Edition}
 use Rattle.store.proofs.Opening.{earlier_of, edition_there}
 use Rattle.store.proofs.store.open_tables.Goals as goal
 

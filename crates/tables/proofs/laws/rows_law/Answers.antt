@@ -1,5 +1,4 @@
-use Rattle.row_model.specs.Rows.{key_in}
-use Rattle.tables.specs.Table.{values}
+use Rattle.tables.proofs.Common.{values}
 use Rattle.tables.proofs.Made.{enters, leaves}
 use Rattle.tables.proofs.laws.rows_law.Goals as goal
 

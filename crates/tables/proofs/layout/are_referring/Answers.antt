@@ -1,5 +1,4 @@
-use Rattle.std.proofs.Common.{◌≡◌, true, false, rules}
-use Rattle.tables.proofs.Common.{cases_from_all, YieldsList-from_zip, YieldsList-from_slice, link_by, is_referring}
+use Rattle.tables.proofs.Common.{cases_from_all, YieldsList-from_zip, YieldsList-from_slice, link_by, is_referring, ◌≡◌, true, false, rules}
 use Rattle.tables.proofs.Alike.{alike}
 use Rattle.tables.proofs.layout.are_referring.Goals as goal
 

@@ -1,5 +1,4 @@
-use Rattle.std.proofs.Common.{◌≡◌, true, false, rules}
-use Rattle.tables.proofs.Common.{cases_from_all, YieldsList-from_zip, YieldsList-from_slice, column_by, is_required}
+use Rattle.tables.proofs.Common.{cases_from_all, YieldsList-from_zip, YieldsList-from_slice, column_by, is_required, ◌≡◌, true, false, rules}
 use Rattle.tables.proofs.Alike.{alike}
 use Rattle.tables.proofs.layout.are_required.Goals as goal
 

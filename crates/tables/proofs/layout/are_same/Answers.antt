@@ -1,5 +1,4 @@
-use Rattle.std.proofs.Common.{◌≡◌, ℕ, List, true, false, rules}
-use Rattle.tables.proofs.Common.{cases_from_all, YieldsList-from_zip, YieldsList-from_slice, places_by, bytes_eq}
+use Rattle.tables.proofs.Common.{cases_from_all, YieldsList-from_zip, YieldsList-from_slice, places_by, bytes_eq, ◌≡◌, ℕ, List, true, false, rules}
 use Rattle.tables.proofs.Alike.{alike}
 use Rattle.tables.proofs.layout.are_same.Goals as goal
 

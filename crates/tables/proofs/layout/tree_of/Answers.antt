@@ -1,4 +1,4 @@
-use Rattle.std.proofs.Common.{sym, ◌∙◌}
+use Rattle.tables.proofs.Common.{sym, ◌∙◌}
 use Rattle.tables.proofs.Layouts.{listed_by}
 use Rattle.tables.proofs.layout.tree_of.Goals as goal
 

@@ -1,4 +1,4 @@
-use Rattle.std.proofs.Common.{sym, ◌∙◌}
+use Rattle.tables.proofs.Common.{sym, ◌∙◌}
 use Rattle.tables.proofs.RowidsRise.{keyed_if_rising}
 use Rattle.tables.proofs.read.are_keyed.Goals as goal
 

@@ -1,5 +1,4 @@
-use Rattle.std.proofs.Common.{ap, rules}
-use Rattle.tables.proofs.Common.{answers_always, ranks_by, is_lt, rowid, value_cmp_total}
+use Rattle.tables.proofs.Common.{answers_always, ranks_by, is_lt, rowid, value_cmp_total, ap, rules}
 use Rattle.tables.proofs.read.put_in_order.Goals as goal
 
 pub returns-clause-sorted : goal.returns-clause-sorted

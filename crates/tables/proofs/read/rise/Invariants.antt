@@ -1,5 +1,4 @@
-use Rattle.std.proofs.Common.{◌≡◌, length}
-use Rattle.tables.proofs.Common.{rises}
+use Rattle.tables.proofs.Common.{rises, ◌≡◌, length}
 use Rattle.tables.proofs.read.rise.Given as goal
 
 abbrev pub invariant-loop-rest : goal.invariant-loop-rest

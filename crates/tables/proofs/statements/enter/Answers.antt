@@ -1,10 +1,6 @@
 use Rattle.tables.proofs.Runs.{part_err, part_ok}
 use Rattle.tables.proofs.Told.{entered, entry_refused}
-use Rattle.tables.proofs.Widths.{narrow_row}
 use Rattle.tables.proofs.statements.enter.Goals as goal
-
-pub write-requires : goal.write-requires
-write-requires g c = narrow_row c.args.table c.args.cells.now c.requires
 
 pub returns-clause-step : goal.returns-clause-step
 returns-clause-step g c = part_ok _ _ _ _ _ _ _ _ (entered c.args.table _ c.requires c.args.way _ c.text.ensures _ _ _) c.in_ok-write.ensures.step

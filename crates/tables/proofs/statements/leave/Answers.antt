@@ -1,10 +1,6 @@
 use Rattle.tables.proofs.Runs.{part_err, part_ok}
 use Rattle.tables.proofs.Told.{left, leaving_refused}
-use Rattle.tables.proofs.Widths.{narrow_part}
 use Rattle.tables.proofs.statements.leave.Goals as goal
-
-pub write-requires : goal.write-requires
-write-requires g c = narrow_part c.args.group c.args.cells.now c.requires
 
 pub returns-clause-step : goal.returns-clause-step
 returns-clause-step g c = part_ok _ _ _ _ _ _ _ _ (left c.args.group _ c.requires _ c.removal.ensures _ _ _) c.in_ok-write.ensures.step

@@ -1,5 +1,4 @@
-use Rattle.std.proofs.Common.{◌≡◌, length, take}
-use Rattle.tables.proofs.Common.{bound, sql_values}
+use Rattle.tables.proofs.Common.{bound, sql_values, ◌≡◌, length, take}
 use Rattle.tables.proofs.write.values.Given as goal
 
 abbrev pub invariant-loop-at : goal.invariant-loop-at

@@ -1,22 +1,7 @@
-use Rattle.std.proofs.Common.{◌≡◌, inl, inr, sym, rules}
-use Rattle.tables.proofs.Common.{cases_Bool, state, Memory, Storage, fault_of}
+use Rattle.tables.proofs.Common.{Memory, Storage, fault_of, ◌≡◌, sym, rules}
 use Rattle.tables.proofs.Ends.{stopped}
 use Rattle.tables.proofs.Starved.{lacks}
 use Rattle.tables.proofs.write.write.Goals as goal
-
-pub returns-in-Ok-clause-step : goal.returns-in-Ok-clause-step
-returns-in-Ok-clause-step g c = record {
-  survives = search rules;
-  did = λ clean. elim (cases_Bool (state g.S.Store c.args.tx.now.conn.now).in_transaction) [
-    | inl inside ↦
-        let ran = rw (c.in-Ok.is, c.values.ensures.values) at (c.execute.ensures.runs clean inside) in
-        record { inside = inside; shown = ran.1; ran = ran.0 }
-    | inr outside ↦ let e = (c.execute.ensures.ended outside).0 in absurd (let f = c.in-Ok.is in cc)
-  ];
-  kept = search rules;
-  starved = λ clean inside h. absurd (cc);
-  cause = λ inside clean h. absurd (cc);
-}
 
 pub returns-in-Err-clause-step : goal.returns-in-Err-clause-step
 returns-in-Err-clause-step g c = record {

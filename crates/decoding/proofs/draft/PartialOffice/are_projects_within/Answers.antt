@@ -1,5 +1,4 @@
-use Rattle.std.proofs.Common.{◌∙◌}
-use Rattle.decoding.proofs.Common.{placed_in_project, drafted}
+use Rattle.decoding.proofs.Common.{placed_in_project, drafted, ◌∙◌}
 use Rattle.decoding.proofs.EachWithin.{goes_on, is_over}
 use Rattle.decoding.proofs.draft.PartialOffice.are_projects_within.Goals as goal
 

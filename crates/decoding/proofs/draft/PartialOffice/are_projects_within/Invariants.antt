@@ -1,5 +1,4 @@
-use Rattle.std.proofs.Common.{◌≡◌, drop}
-use Rattle.decoding.proofs.Common.{list_all, drafted}
+use Rattle.decoding.proofs.Common.{list_all, drafted, ◌≡◌, drop}
 use Rattle.decoding.proofs.EachWithin.{project_within}
 use Rattle.decoding.proofs.draft.PartialOffice.are_projects_within.Given as goal
 

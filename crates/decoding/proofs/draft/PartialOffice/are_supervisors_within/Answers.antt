@@ -1,5 +1,4 @@
-use Rattle.std.proofs.Common.{◌∙◌}
-use Rattle.decoding.proofs.Common.{placed_with_supervisor, drafted}
+use Rattle.decoding.proofs.Common.{placed_with_supervisor, drafted, ◌∙◌}
 use Rattle.decoding.proofs.EachWithin.{goes_on, is_over}
 use Rattle.decoding.proofs.draft.PartialOffice.are_supervisors_within.Goals as goal
 

@@ -1,5 +1,4 @@
-use Rattle.std.proofs.Common.{sym, ap, ◌∙◌}
-use Rattle.decoding.proofs.Common.{put, round_key, drafted}
+use Rattle.decoding.proofs.Common.{put, round_key, drafted, sym, ap, ◌∙◌}
 use Rattle.decoding.proofs.Chosen.{chosen_taken}
 use Rattle.decoding.proofs.draft.PartialOffice.choose.Goals as goal
 

@@ -14,14 +14,14 @@ turned changes office next here e transforms = subst (λ (o : State). Transforms
 pub invariant_of-self : goal.invariant_of-self
 invariant_of-self g c = record {
   stands = saved_keeps c.args.done.changes.items c.deref.result.now c.deref.ensures.value c.args.self.now.office c.self.inside.office c.swap.new.x (ap (λ k. k.office) c.self.view_is)
-      (state g.S.Store c.self.inside.store) (state g.S.Store c.save.new.self) _ (turned c.args.done.changes.items c.args.self.now.office c.args.next.now c.swap.new.x c.swap.ensures.x_after c.requires.transforms) c.save.ensures.crash (λ clean. (c.in-Ok.ensures.saved clean).saved) c.self.invariant.stands;
-  ended = c.save.ensures.ended c.self.invariant.ended;
+      (state g.S.Store c.self.inside.store) (state g.S.Store c.save.new.self) _ (turned c.args.done.changes.items c.args.self.now.office c.args.next.now c.swap.new.x c.swap.ensures.x_after c.requires.transforms) c.save.ensures.safe.crash (λ clean. (c.in-Ok.ensures.saved clean).saved) c.self.invariant.stands;
+  ended = c.save.ensures.safe.ended c.self.invariant.ended;
 }
 
 pub returns-in-Ok-clause-tables : goal.returns-in-Ok-clause-tables
 returns-in-Ok-clause-tables g c =
     saved_keeps c.args.done.changes.items c.deref.result.now c.deref.ensures.value c.args.self.now.office c.self.inside.office c.swap.new.x (ap (λ k. k.office) c.self.view_is)
-    (state g.S.Store c.self.inside.store) (state g.S.Store c.save.new.self) _ (turned c.args.done.changes.items c.args.self.now.office c.args.next.now c.swap.new.x c.swap.ensures.x_after c.requires.transforms) c.save.ensures.crash (λ clean. (c.in-Ok.ensures.saved clean).saved) c.self.invariant.stands
+    (state g.S.Store c.self.inside.store) (state g.S.Store c.save.new.self) _ (turned c.args.done.changes.items c.args.self.now.office c.args.next.now c.swap.new.x c.swap.ensures.x_after c.requires.transforms) c.save.ensures.safe.crash (λ clean. (c.in-Ok.ensures.saved clean).saved) c.self.invariant.stands
 
 pub returns-in-Ok-clause-err : goal.returns-in-Ok-clause-err
 returns-in-Ok-clause-err g c = tt
@@ -45,7 +45,7 @@ stays_same changes before seen new e same rows sound ready t few = subst IsOurs 
 
 pub returns-in-Err-clause-tables : goal.returns-in-Err-clause-tables
 returns-in-Err-clause-tables g c =
-    kept_keeps c.self.inside.office (state g.S.Store c.self.inside.store) (state g.S.Store c.save.new.self) _ c.save.ensures.crash c.in-Err.ensures.err c.self.invariant.stands
+    kept_keeps c.self.inside.office (state g.S.Store c.self.inside.store) (state g.S.Store c.save.new.self) _ c.save.ensures.safe.crash c.in-Err.ensures.safe.kept c.self.invariant.stands
 
 -- a connection that was open was open, of equal ones
 shut_so : (before seen : Seen) → before ≡ seen → IsTrue before.is_open → IsTrue seen.is_open
@@ -75,7 +75,7 @@ pub returns-in-Ok-clause-saved : goal.returns-in-Ok-clause-saved
 returns-in-Ok-clause-saved g c =
     let before : state g.S.Store c.self.inside.store ≡ state g.S.Store c.args.self.now.store = ap (λ k. state g.S.Store k.store) c.self.view_is in
     record {
-      crash = left_of c.deref.result.now c.args.done.changes.items (state g.S.Store c.self.inside.store) (state g.S.Store c.args.self.now.store) (state g.S.Store c.save.new.self) c.deref.ensures.value before c.save.ensures.crash;
+      crash = left_of c.deref.result.now c.args.done.changes.items (state g.S.Store c.self.inside.store) (state g.S.Store c.args.self.now.store) (state g.S.Store c.save.new.self) c.deref.ensures.value before c.save.ensures.safe.crash;
       alone = λ clean. (c.in-Ok.ensures.saved clean).alone;
       stays_open = λ clean. (c.in-Ok.ensures.saved clean).saved.shown.is_open;
       stays_shut = λ clean up. shut_so _ _ before ((c.in-Ok.ensures.saved clean).saved.shown.was_open);
@@ -88,12 +88,12 @@ pub returns-in-Err-clause-saved : goal.returns-in-Err-clause-saved
 returns-in-Err-clause-saved g c =
     let before : state g.S.Store c.self.inside.store ≡ state g.S.Store c.args.self.now.store = ap (λ k. state g.S.Store k.store) c.self.view_is in
     record {
-      crash = left_of c.deref.result.now c.args.done.changes.items (state g.S.Store c.self.inside.store) (state g.S.Store c.args.self.now.store) (state g.S.Store c.save.new.self) c.deref.ensures.value before c.save.ensures.crash;
+      crash = left_of c.deref.result.now c.args.done.changes.items (state g.S.Store c.self.inside.store) (state g.S.Store c.args.self.now.store) (state g.S.Store c.save.new.self) c.deref.ensures.value before c.save.ensures.safe.crash;
       alone = λ _. tt;
       stays_open = λ _. tt;
-      stays_shut = λ clean up. shut_so _ _ before (c.in-Err.ensures.err clean up).0;
+      stays_shut = λ clean up. shut_so _ _ before (c.in-Err.ensures.safe.kept clean up).0;
       acted_on = λ _. refl;
       cause = caused_so c.deref.result.now c.args.done.changes.items (state g.S.Store c.self.inside.store) (state g.S.Store c.args.self.now.store) (state g.S.Store c.save.new.self) c.in-Err.fault c.refusal_of_fault.result c.deref.ensures.value
           before c.refusal_of_fault.ensures.memory c.refusal_of_fault.ensures.damaged (c.in-Err.ensures.cause c.self.invariant.ended);
-      stays = λ clean up. stays_same c.args.done.changes.items (state g.S.Store c.self.inside.store) (state g.S.Store c.args.self.now.store) (state g.S.Store c.save.new.self) before (c.in-Err.ensures.err clean up).1;
+      stays = λ clean up. stays_same c.args.done.changes.items (state g.S.Store c.self.inside.store) (state g.S.Store c.args.self.now.store) (state g.S.Store c.save.new.self) before (c.in-Err.ensures.safe.kept clean up).1;
     }

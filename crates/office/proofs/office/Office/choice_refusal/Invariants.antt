@@ -1,5 +1,4 @@
-use Rattle.std.proofs.Common.{◌≡◌, [], take, drop}
-use Rattle.office.proofs.Common.{first, choice_tests}
+use Rattle.office.proofs.Common.{first, choice_tests, ◌≡◌, [], take, drop}
 use Rattle.office.proofs.office.Office.choice_refusal.Given as goal
 
 abbrev pub invariant-loop-place : goal.invariant-loop-place

@@ -1,5 +1,4 @@
-use Rattle.std.proofs.Common.{◌≡◌, sym, ap, ◌∙◌, subst}
-use Rattle.office.proofs.Common.{count_by, ◌==◌, ◌&&◌, ◌+◌, false, Done, put_all, State, placement_key, last_round, lists_of, IsFit, by_rank, round_instance, IsClosed, state_of}
+use Rattle.office.proofs.Common.{count_by, ◌==◌, ◌&&◌, ◌+◌, false, Done, put_all, State, placement_key, last_round, lists_of, IsFit, by_rank, round_instance, IsClosed, state_of, ◌≡◌, sym, ap, ◌∙◌, subst}
 use Rattle.rolls.specs.declared.request.Reply.TheVariants as reply
 use Rattle.spa.specs.Coded.{taken}
 use Rattle.closing.specs.Places.{placed_by}
@@ -7,9 +6,6 @@ use Rattle.closing.specs.Changes.{after_placing, closing_changes, placed_reply}
 use Rattle.office.proofs.Made.{last_put}
 use Rattle.office.proofs.office.Office.close.Goals as goal
 use Rattle.office.proofs.office.Office.close.Goals.{Joined-self-placements}
-
-pub placements_of-requires : goal.placements_of-requires
-placements_of-requires c = rw (c.lists.ensures.all, c.last_round-round.ensures, c.deref.ensures.value) (c.places_law.ensures.within c.args.self.now c.args.matching.now.places.items c.requires.matching)
 
 -- the placements that are made
 made : (c : Joined-self-placements) → c.in_ok-placed.placed.items ≡ placed_by (last_round c.args.self.now) (lists_of c.args.self.now (last_round c.args.self.now)) c.args.matching.now.places.items
@@ -29,14 +25,6 @@ pub invariant_of-self-2 : goal.invariant_of-self-2
 invariant_of-self-2 c =
     let law = c.places_law.ensures.close c.args.self.now c.args.matching.now.places.items (subst IsFit c.self.view_is c.self.invariant) c.requires.open c.requires.matching c.in_ok-placed.placed.items (made c) in
     subst IsFit (sym (after c)) law.fit
-
-pub returns-clause-changes : goal.returns-clause-changes
-returns-clause-changes c =
-    let old : State = c.args.self.now in
-    let ks = c.args.matching.now.places.items in
-    c.in_ok-changes.ensures
-    ∙ (λ i. closing_changes (c.last_round-round.ensures i) (c.deref-3.ensures.value i))
-    ∙ ap (closing_changes (last_round old)) (made c ∙ c.places_law.ensures.kept old ks (subst IsFit c.self.view_is c.self.invariant) (c.places_law.ensures.within old ks c.requires.matching))
 
 pub returns-clause-ok : goal.returns-clause-ok
 returns-clause-ok c =

@@ -1,5 +1,4 @@
-use Rattle.std.proofs.Common.{◌++◌, [], ◌∷◌, IsTrue, take, sym, ap, subst, ◌∙◌}
-use Rattle.office.proofs.Common.{AllByRecursion, option_copied, take_more, drop_more, has_project, project_key, Key, found_key}
+use Rattle.office.proofs.Common.{AllByRecursion, option_copied, take_more, drop_more, has_project, project_key, Key, found_key, ◌++◌, [], ◌∷◌, IsTrue, take, sym, ap, subst, ◌∙◌}
 use Rattle.office.proofs.office.Office.codes_of.Goals as goal
 
 pub loop-text-preserved : goal.loop-text-preserved

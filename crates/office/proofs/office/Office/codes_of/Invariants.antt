@@ -1,5 +1,4 @@
-use Rattle.std.proofs.Common.{◌≡◌, IsTrue, drop, take}
-use Rattle.office.proofs.Common.{AllByRecursion, has_project}
+use Rattle.office.proofs.Common.{AllByRecursion, has_project, ◌≡◌, IsTrue, drop, take}
 use Rattle.office.proofs.office.Office.codes_of.Given as goal
 
 abbrev pub invariant-loop-text : goal.invariant-loop-text

@@ -1,5 +1,4 @@
-use Rattle.std.proofs.Common.{◌≡◌, List, [], ◌∷◌, refl, ap, ◌∙◌}
-use Rattle.office.proofs.Common.{Round, Listed, put, take_out, list_key, round_key, after_plain, Remove, list_part, state_of, DropList}
+use Rattle.office.proofs.Common.{Round, Listed, put, take_out, list_key, round_key, after_plain, Remove, list_part, state_of, DropList, ◌≡◌, [], ◌∷◌, refl, ap, ◌∙◌, List}
 use Rattle.office.proofs.Made.{made_fit, made_done, last_put}
 use Rattle.office.proofs.office.Office.drop_list.Goals.{After-drop-student-inside-2}
 use Rattle.office.proofs.office.Office.drop_list.Goals as goal

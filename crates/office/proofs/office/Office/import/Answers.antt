@@ -1,5 +1,4 @@
-use Rattle.std.proofs.Common.{rules, ◌≡◌, None, Some, Ok, inl, inr, sym, subst, ◌∙◌, refl}
-use Rattle.office.proofs.Common.{State, kept_rows, first, import_tests, rows_refusal, Imports, import_changes}
+use Rattle.office.proofs.Common.{State, kept_rows, first, import_tests, rows_refusal, Imports, import_changes, rules, ◌≡◌, None, Some, inl, inr, sym, subst, ◌∙◌, refl, Ok}
 use Rattle.office.proofs.ImportRows.{kept_answered, kept_unchanged, rows_decide}
 use Rattle.office.proofs.office.Office.import.Goals as goal
 

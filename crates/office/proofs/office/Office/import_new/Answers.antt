@@ -1,7 +1,6 @@
-use Rattle.std.proofs.Common.{◌≡◌, ℕ, List, ◌∷◌, [], ◌++◌, length, sym, ap, subst, ◌∙◌}
-use Rattle.office.proofs.Common.{◌&&◌, not, nat_le, false, MAX_IMPORTS, Import, Add, State, has_import, with_import}
+use Rattle.office.proofs.Common.{◌&&◌, not, nat_le, false, MAX_IMPORTS, Import, Add, State, has_import, with_import, ◌≡◌, ℕ, ◌∷◌, [], ◌++◌, sym, ap, subst, ◌∙◌, List, length}
 use Rattle.rolls.specs.declared.request.Reply.TheVariants as reply
-use Rattle.office.proofs.ImportRows.{import_added, still_room, import_made, new_changes}
+use Rattle.office.proofs.ImportRows.{import_added, still_room, import_made}
 use Rattle.office.proofs.office.Office.import_new.Goals.{After-drop-id-inside-2}
 use Rattle.office.proofs.office.Office.import_new.Goals as goal
 
@@ -21,9 +20,6 @@ last c =
     c.in_ok-push.ensures.items
     ∙ ap (λ r. c.in_ok-changes.changes.items ++ Add r ∷ []) c.in_ok-row.ensures
     ∙ ap (λ (m : Import). c.in_ok-changes.changes.items ++ import_added m ∷ []) (made c)
-
-pub returns-clause-changes : goal.returns-clause-changes
-returns-clause-changes c = last c ∙ new_changes c.args.id c.args.kind c.args.bytes c.args.rows.items c.args.self.now c.requires.free c.make_all.new.self c.in_ok-changes.changes.items c.in_ok-changes.ensures.ok
 
 pub returns-clause-ok : goal.returns-clause-ok
 returns-clause-ok c =

@@ -1,5 +1,4 @@
-use Rattle.std.proofs.Common.{◌≡◌, ℕ, Some, subst}
-use Rattle.office.proofs.Common.{IfOk, State, instance_left}
+use Rattle.office.proofs.Common.{IfOk, State, instance_left, ◌≡◌, ℕ, Some, subst}
 use Rattle.spa.specs.Named.{instance_of}
 use Rattle.rolls.specs.Counted.{count_in, count_with}
 use Rattle.office.proofs.office.Office.instance_of_round.Goals as goal

@@ -1,12 +1,6 @@
-use Rattle.std.proofs.Common.{◌≡◌, sym, subst}
-use Rattle.office.proofs.Common.{◌&&◌, not, nat_le, false, List, length, MAX_IMPORTS, Import, State, has_import, IsFit, state_of}
+use Rattle.office.proofs.Common.{◌&&◌, not, nat_le, false, List, length, MAX_IMPORTS, Import, State, has_import, IsFit, state_of, ◌≡◌, sym, subst}
 use Rattle.change_laws.proofs.FitAfterPut.{fit_with_import}
 use Rattle.office.proofs.office.Office.keep.Goals as goal
-
-pub invariant_of-self : goal.invariant_of-self
-invariant_of-self c =
-    let inside : State = state_of c.self.inside in
-    subst (λ (is : List Import). IsFit (record inside { imports = is })) (sym c.in_err-put.ensures.err) c.self.invariant
 
 pub invariant_of-self-2 : goal.invariant_of-self-2
 invariant_of-self-2 c =

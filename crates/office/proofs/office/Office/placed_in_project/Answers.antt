@@ -1,5 +1,4 @@
-use Rattle.std.proofs.Common.{List, count_by, arith, ap, ◌∙◌}
-use Rattle.office.proofs.Common.{bytes_eq, Placement, State, state_of}
+use Rattle.office.proofs.Common.{bytes_eq, Placement, State, state_of, arith, ap, ◌∙◌, List, count_by}
 use Rattle.office.proofs.Few.{counted_few}
 use Rattle.office.proofs.office.Office.placed_in_project.Goals as goal
 

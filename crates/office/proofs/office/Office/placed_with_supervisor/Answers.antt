@@ -1,5 +1,4 @@
-use Rattle.std.proofs.Common.{List, count_by, arith, ap, ◌∙◌}
-use Rattle.office.proofs.Common.{Placement, State, is_offered_by, state_of}
+use Rattle.office.proofs.Common.{Placement, State, is_offered_by, state_of, arith, ap, ◌∙◌, List, count_by}
 use Rattle.office.proofs.Few.{counted_few}
 use Rattle.office.proofs.office.Office.placed_with_supervisor.Goals as goal
 

@@ -1,5 +1,4 @@
-use Rattle.std.proofs.Common.{sym, ap, ◌∙◌}
-use Rattle.office.proofs.Common.{PutSupervisor, PutProject, plain_refusal}
+use Rattle.office.proofs.Common.{PutSupervisor, PutProject, plain_refusal, sym, ap, ◌∙◌}
 use Rattle.office.proofs.office.Office.plain_refusal.Goals as goal
 
 pub returns-in-PutSupervisor : goal.returns-in-PutSupervisor

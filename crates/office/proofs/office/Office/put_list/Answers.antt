@@ -1,19 +1,12 @@
-use Rattle.std.proofs.Common.{◌≡◌, ℕ, length, true, List, is_some, arith, refl, sym, ap, subst, ◌∙◌}
-use Rattle.office.proofs.Common.{option_copied, AllByRecursion, Round, Listed, Key, put, State, has_project, list_key, round_key, student_key, last_round, has_list, after_plain, found_key, list_changes, state_of, PutList}
+use Rattle.office.proofs.Common.{option_copied, AllByRecursion, Round, Listed, Key, put, State, has_project, list_key, round_key, student_key, last_round, has_list, after_plain, found_key, list_changes, state_of, PutList, ◌≡◌, refl, sym, ap, subst, ◌∙◌, true, List, is_some}
 use Rattle.office.proofs.Known.{lent_is_there}
 use Rattle.office.proofs.Made.{made_fit, made_done, last_put}
-use Rattle.office.proofs.ListPuts.{list_few, list_known}
+use Rattle.office.proofs.ListPuts.{list_known}
 use Rattle.office.proofs.office.Office.put_list.Goals as goal
 use Rattle.office.proofs.office.Office.put_list.Goals.{After-drop-student-inside-2}
 
 pub codes_of-requires : goal.codes_of-requires
 codes_of-requires c = subst (AllByRecursion (λ p. has_project c.args.self.now p ≡ true)) (sym c.as_slice.ensures) (list_known c.args.self.now c.args.student c.args.choices c.requires.allowed)
-
-pub list_changes-requires : goal.list_changes-requires
-list_changes-requires c =
-    let few = list_few c.args.self.now c.args.student c.args.choices c.requires.allowed in
-    let are = ap (λ (cs : List (List ℕ)). length cs) (c.deref.ensures.value ∙ c.in_ok-codes.ensures ∙ c.as_slice.ensures) in
-    omega (arith, few, are)
 
 -- the office after it
 after : (c : After-drop-student-inside-2) → record (state_of c.self.inside) { rounds = c.put-2.new.self } ≡ after_plain (PutList c.args.student c.args.choices) c.args.self.now

@@ -1,6 +1,5 @@
-use Rattle.std.proofs.Common.{◌≡◌, List, [], ◌∷◌, is_some, refl, ap, ◌∙◌}
 use Rattle.rolls.specs.declared.entries.Student.{Student}
-use Rattle.office.proofs.Common.{StudentTable, PutStudent, put, State, student_key, has_student, after_plain, put_or_added, student_cells, state_of}
+use Rattle.office.proofs.Common.{StudentTable, PutStudent, put, State, student_key, has_student, after_plain, put_or_added, student_cells, state_of, ◌≡◌, [], ◌∷◌, refl, ap, ◌∙◌, List, is_some}
 use Rattle.office.proofs.Known.{lent_is_there}
 use Rattle.office.proofs.Made.{made_fit, made_done}
 use Rattle.office.proofs.office.Office.put_student.Goals as goal

@@ -1,6 +1,5 @@
-use Rattle.std.proofs.Common.{◌≡◌, List, [], ◌∷◌, is_some, refl, ap, ◌∙◌}
 use Rattle.rolls.specs.declared.entries.Supervisor.{Supervisor}
-use Rattle.office.proofs.Common.{SupervisorTable, PutSupervisor, put, State, supervisor_key, has_supervisor, put_or_added, supervisor_cells, after_plain, state_of}
+use Rattle.office.proofs.Common.{SupervisorTable, PutSupervisor, put, State, supervisor_key, has_supervisor, put_or_added, supervisor_cells, after_plain, state_of, ◌≡◌, [], ◌∷◌, refl, ap, ◌∙◌, List, is_some}
 use Rattle.office.proofs.Known.{lent_is_there}
 use Rattle.office.proofs.Made.{made_fit, made_done}
 use Rattle.office.proofs.office.Office.put_supervisor.Goals as goal

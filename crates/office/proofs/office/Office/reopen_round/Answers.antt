@@ -1,5 +1,4 @@
-use Rattle.std.proofs.Common.{◌≡◌, ◌==◌, true, not, List, Some, sym, ap, subst, ◌∙◌}
-use Rattle.office.proofs.Common.{Round, Placement, ReopenRound, rises, State, placement_key, last_round, IsFit, after_plain, reopening_changes, kept_placements, state_of}
+use Rattle.office.proofs.Common.{Round, Placement, ReopenRound, rises, State, placement_key, last_round, IsFit, after_plain, reopening_changes, kept_placements, state_of, ◌≡◌, Some, sym, ap, subst, ◌∙◌, ◌==◌, true, not, List}
 use Rattle.rolls.specs.declared.request.Reply.TheVariants as reply
 use Rattle.rolls.proofs.Places.{rises-filter}
 use Rattle.office.proofs.Made.{made_fit, made_done, last_put}

@@ -1,5 +1,4 @@
-use Rattle.std.proofs.Common.{◌≡◌, drop}
-use Rattle.office.proofs.Common.{list_any, bytes_eq}
+use Rattle.office.proofs.Common.{list_any, bytes_eq, ◌≡◌, drop}
 use Rattle.office.proofs.office.judging.stands_in.Given as goal
 
 abbrev pub invariant-loop-other : goal.invariant-loop-other

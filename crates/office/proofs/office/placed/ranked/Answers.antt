@@ -1,5 +1,4 @@
-use Rattle.std.proofs.Common.{ℕ, ◌+◌, count_by, ◌==◌, ◌&&◌, ap, ◌∙◌, arith}
-use Rattle.office.proofs.Common.{RANKS}
+use Rattle.office.proofs.Common.{RANKS, ℕ, ap, ◌∙◌, arith, ◌+◌, count_by, ◌==◌, ◌&&◌}
 use Rattle.rolls.proofs.Numbered.{listed}
 use Rattle.office.proofs.office.placed.ranked.Goals as goal
 

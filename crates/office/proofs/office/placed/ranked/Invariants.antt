@@ -1,5 +1,4 @@
-use Rattle.std.proofs.Common.{◌≡◌, ℕ, ◌+◌, ◌<◌, ◌==◌, ◌&&◌, length, count_by, slice_index}
-use Rattle.office.proofs.Common.{RANKS}
+use Rattle.office.proofs.Common.{RANKS, ◌≡◌, ℕ, ◌<◌, slice_index, ◌+◌, ◌==◌, ◌&&◌, length, count_by}
 use Rattle.office.proofs.office.placed.ranked.Given as goal
 
 abbrev pub invariant-loop-k : goal.invariant-loop-k

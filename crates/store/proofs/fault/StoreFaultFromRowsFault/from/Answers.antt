@@ -1,4 +1,4 @@
-use Rattle.std.proofs.Common.{rules}
+use Rattle.store.proofs.Common.{rules}
 use Rattle.store.proofs.fault.StoreFaultFromRowsFault.from.Goals as goal
 
 pub returns-in-Unfit : goal.returns-in-Unfit

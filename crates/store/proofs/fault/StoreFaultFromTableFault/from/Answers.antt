@@ -1,4 +1,4 @@
-use Rattle.std.proofs.Common.{sym, ap}
+use Rattle.store.proofs.Common.{sym, ap}
 use Rattle.store.specs.Inside.Faults.{of_table}
 use Rattle.store.proofs.fault.StoreFaultFromTableFault.from.Goals as goal
 

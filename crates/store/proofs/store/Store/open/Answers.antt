@@ -1,4 +1,4 @@
-use Rattle.std.proofs.Common.{refl}
+use Rattle.store.proofs.Common.{refl}
 use Rattle.store.proofs.store.Store.open.Goals as goal
 
 pub returns-in-Err-clause-unlisted : goal.returns-in-Err-clause-unlisted

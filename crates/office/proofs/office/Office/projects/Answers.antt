@@ -1,6 +1,0 @@
-use Rattle.std.proofs.Common.{ap, ◌∙◌}
-use Rattle.office.proofs.Common.{State}
-use Rattle.office.proofs.office.Office.projects.Goals as goal
-
-pub returns : goal.returns
-returns c = record { all = c.entries.ensures.all ∙ ap (λ (o : State). o.projects) c.self.view_is }

@@ -1,5 +1,0 @@
-use Rattle.std.proofs.Common.{◌∙◌}
-use Rattle.row_model.proofs.text.Text.as_str.Goals as goal
-
-pub returns : goal.returns
-returns c = c.as_str.ensures.value ∙ c.self.view_is

@@ -1,8 +1,0 @@
-use Rattle.std.proofs.Common.{◌≡◌, take, Ok}
-use Rattle.store.specs.Causes.{applying}
-use Rattle.tables.specs.Outcomes.{each_of}
-use Rattle.tables.specs.Inside.Steps.{Runs}
-use Rattle.store.proofs.saving.apply_all.Given as goal
-
-abbrev pub invariant-loop-change : goal.invariant-loop-change
-invariant-loop-change g l = (l.tx.conn.ghost_name ≡ l.fn.tx.conn.ghost_name) × Runs g.S.Store (each_of applying (take l.change-index l.changes)) (Ok tt) l.fn.tx.conn.now l.tx.conn.now
