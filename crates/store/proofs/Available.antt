@@ -27,11 +27,7 @@ use Rattle.store.proofs.Held.{applies_one}
 use Rattle.store.specs.Rows.{IsAmong, IsRollTable, value_of, values}
 use Rattle.store.proofs.Among.{in_rolls, part_in_rolls, row_in_rolls}
 use Rattle.store.proofs.Begins.{begins_same}
-
-mapped : {X Y : Type 0} (f : X → Y) (xs : List X) (x : X) → Has xs x → Has (map f xs) (f x)
-mapped f [] x h = h
-mapped f (y ∷ xs) x (inl same) = inl (ap f same)
-mapped f (y ∷ xs) x (inr h) = inr (mapped f xs x h)
+use Rattle.store.proofs.ListedTables.{has_mapped as mapped}
 
 -- short cells are small values
 small_values : (row : Cells) → AllByRecursion IsShort row → AllByRecursion IsSmall (values row)
@@ -43,7 +39,7 @@ small_values (Bytes bytes ∷ row) short = (short.0, small_values row short.1)
 numbers_are : (a b : ℕ) (xs ys : Cells) → Number a ∷ xs ≡ Number b ∷ ys → pos a ≡ pos b
 numbers_are a b xs ys h = let one : Number a ≡ Number b = cc in let same : a ≡ b = cc in ap pos same
 
-parent_roll : (table : Table) → IsParent table → IsRollTable table
+pub parent_roll : (table : Table) → IsParent table → IsRollTable table
 unfolding IsAmong
 parent_roll Supervisor is = inl refl
 parent_roll Project is = inr (inl refl)

@@ -1,11 +1,6 @@
 -- What a transaction leaves of a connection once it is committed or dropped.
-use Rattle.std.specs.Prelude.{IfOk}
-use Rattle.store.proofs.Common.{Option, Result, Ok, Err, ℕ, Stays, stopped_before, IsStopped, Database, Seen, HasCleanDisk, IsUnchanged, Survives, Trees, survives_then, HasStepped, MayRecoverTo, ◌≡◌, true, subst, arith}
-use Rattle.tables.specs.Outcomes.{Outcome}
-use Rattle.tables.specs.Steps.{IsPart}
-use Rattle.tables.specs.declared.fault.TableFault.{TableFault}
-use Rattle.tables.proofs.Runs.{stays_so}
-use Rattle.store.proofs.Causes.{unchanged_before}
+use Rattle.store.proofs.Common.{Option, ℕ, stopped_before, IsStopped, Database, Seen, HasCleanDisk, IsUnchanged, Survives, Trees, survives_then, MayRecoverTo, ◌≡◌, true, subst, arith}
+use Rattle.store.proofs.Readings.{unchanged_before}
 
 module _ (first begun : Seen) (begins : begun ≡ record first { in_transaction = true }) (b c : Seen) where
   -- a transaction that has begun has changed nothing
@@ -45,11 +40,3 @@ stopped_after_all H K old first begun mid last same zero begins one f it two cle
     let dropped = dropped_by first begun begins mid last (λ _ _. ⊥) one two in
     let early : HasCleanDisk first = omega (arith, dropped.clean, clean) in
     unchanged_before H K old first last (same early) zero early dropped.counts f (stopped_within H first begun mid last begins it two clean)
-
--- one statement is a run of statements
-pub one_runs : (outcome : Outcome) (r : Result (Unit {0}) TableFault) (a b : Seen) → IsPart {A = Unit {0}} (λ _. HasStepped outcome.does) outcome.hinders r a b → IsPart {A = Unit {0}} (λ _. Stays outcome.does) outcome.hinders r a b
-one_runs outcome r a b p = record { survives = p.survives; did = did r p.did; kept = p.kept; starved = p.starved; cause = p.cause }
-  where
-    did : (r : Result (Unit {0}) TableFault) → (HasCleanDisk b → IfOk r (λ _. HasStepped outcome.does a b)) → HasCleanDisk b → IfOk r (λ _. Stays outcome.does a b)
-    did (Ok u) it clean = stays_so outcome.does a b (it clean)
-    did (Err e) it clean = tt

@@ -2,21 +2,17 @@ mod Common
 mod Available
 mod Among
 mod Begins
-mod Permutation
 pub mod Standing
-mod CellByCell
 mod Held
 mod ChangesInOrder
 mod NewTables
-mod Inertness
 mod ListedTables
 mod Commit
-mod AllRows
 mod Fitness
 mod ReadRows
 mod Migrated
 mod FoundOffice
 mod SameTrees
 mod Opening
-mod Causes
 mod Readings
+mod Nothing

@@ -79,7 +79,7 @@ listed_each tables schema edition e l table among =
 pub no_edition : (tables : List Table) (schema : Schema) → IsUnlisted (table_at Edition) schema → AreAllListed tables schema → ⊥
 no_edition tables schema none l = none l.edition l.edition_listed
 
-has_mapped : {X Y : Type 0} (f : X → Y) (xs : List X) (x : X) → Has xs x → Has (map f xs) (f x)
+pub has_mapped : {X Y : Type 0} (f : X → Y) (xs : List X) (x : X) → Has xs x → Has (map f xs) (f x)
 has_mapped f [] x h = h
 has_mapped f (y ∷ xs) x (inl same) = inl (ap f same)
 has_mapped f (y ∷ xs) x (inr h) = inr (has_mapped f xs x h)

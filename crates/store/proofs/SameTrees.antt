@@ -3,11 +3,10 @@ use Rattle.store.proofs.Common.{IsPermutation, IsPermutation-trans, IsPermutatio
 use Rattle.tables.proofs.SameTrees.{listed_so, stands_so}
 use Rattle.change_laws.specs.Laws.{RowsGiveOffice}
 use Rattle.store.proofs.Among.{among_or_not, is_among}
-use Rattle.store.proofs.Standing.{in_latest, stand_as}
-use Rattle.store.proofs.Permutation.{rows_permuted}
+use Rattle.store.proofs.Standing.{in_latest, stand_as, rows_permuted}
 use Rattle.row_model.specs.Rows.{all_tables}
 use Rattle.change_laws.proofs.Keyed.{filter_alike}
-use Rattle.store.proofs.CellByCell.{of_both}
+use Rattle.store.proofs.ReadRows.{of_both}
 
 -- rows of one table
 abbrev of_one : Table → List Cells → List RowOf

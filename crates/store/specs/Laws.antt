@@ -1,8 +1,8 @@
 -- What the trees of a database say of the office that its tables stand for, and what tables that are made here take.
-use Rattle.std.specs.Prelude.{◌≡◌, List, None}
-use Rattle.store.specs.Common.{Database, IsDatabase, State, IsFit, Edition, Change, AllRows, AreFresh}
+use Rattle.std.specs.Prelude.{◌≡◌, List, [], None}
+use Rattle.store.specs.Common.{Database, IsDatabase, Schema, State, IsFit, Edition, Change, AllRows, AreFresh}
 use Rattle.store.specs.Available.{AreFew, AreReady}
-use Rattle.store.specs.Causes.{IsHinderedAmong}
+use Rattle.store.specs.Causes.{IsHinderedAmong, IsHinderedOpening}
 use Rattle.store.specs.Tables.{Opens, StandsIn, TablesHold}
 
 -- A database whose tables stand for an office in some edition, opened from its trees alone, is opened as that office.
@@ -12,3 +12,11 @@ OpensAgain = (e : Edition) (db found opened : Database) (office again : State) �
 -- where they are allowed and each row that they add is new, no change is refused by such tables
 abbrev pub TakesChanges : Type 0
 TakesChanges = (changes : List Change) (rows : AllRows) (db : Database) → IsDatabase db → AreReady db → TablesHold db rows → AreFew changes rows → AreFresh changes rows → IsHinderedAmong changes None db → ⊥
+
+-- a schema in which nothing was made
+abbrev pub nothing_made : Schema
+nothing_made = record { tables = []; indexes = []; views = [] }
+
+-- no statement of an opening is refused by a database in which nothing was made
+abbrev pub TakesTables : Type 0
+TakesTables = (db : Database) → IsDatabase db → db.schema ≡ nothing_made → IsHinderedOpening None db → ⊥

@@ -1,6 +1,6 @@
 //! Laws that the words of the contracts keep: functions with nothing to do, whose contracts are the laws.
 
-ghost use Rattle.store.specs.Laws.{OpensAgain, TakesChanges};
+ghost use Rattle.store.specs.Laws.{OpensAgain, TakesChanges, TakesTables};
 
 use change_laws::rows_law;
 use editions::migrated_rows_law;
@@ -16,4 +16,9 @@ pub fn opening_law()
 /// Tables as they are made here take each change of a valid request.
 pub fn available_law()
     ensures { TakesChanges }
+{}
+
+/// A database in which nothing was made takes the tables.
+pub fn founding_law()
+    ensures { TakesTables }
 {}

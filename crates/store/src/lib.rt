@@ -25,5 +25,5 @@ mod transaction;
 
 pub use edition::has_none;
 pub use fault::StoreFault;
-pub use laws::{available_law, opening_law};
+pub use laws::{available_law, founding_law, opening_law};
 pub use store::Store;

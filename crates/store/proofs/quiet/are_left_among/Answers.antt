@@ -3,9 +3,6 @@ use Rattle.store.proofs.ListedTables.{so_far, of_each, is_next}
 use Rattle.store.proofs.Among.{is_among, stands_among}
 use Rattle.store.proofs.quiet.are_left_among.Goals as goal
 
-pub loop-table-init : goal.loop-table-init
-loop-table-init c table h = absurd h
-
 pub loop-table-preserved : goal.loop-table-preserved
 loop-table-preserved c =
     so_far (λ table. IsLeftAlone table c.args.schema.now × (IsActedOnAt table c.args.schema.now → ⊥)) c.args.tables.now c.loop-table.table-index _ c.loop-table-test.true c.loop-table.invariant

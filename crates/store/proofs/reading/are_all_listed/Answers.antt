@@ -6,9 +6,6 @@ use Rattle.store.proofs.reading.are_all_listed.Goals as goal
 pub returns-in_default-clause-wrong : goal.returns-in_default-clause-wrong
 returns-in_default-clause-wrong c h = no_edition c.args.tables.now _ (c.in_default.ensures.none refl)
 
-pub loop-table-init : goal.loop-table-init
-loop-table-init c table h = absurd h
-
 pub loop-table-preserved : goal.loop-table-preserved
 loop-table-preserved c = so_far (IsListedAlone c.args.tables.now c.in-Some.edition c.args.schema.now) c.args.tables.now c.loop-table.table-index _ c.loop-table-test.true c.loop-table.invariant (c.is_listed.ensures.right c.if-not-is_listed.false)
 

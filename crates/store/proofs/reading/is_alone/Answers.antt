@@ -3,9 +3,6 @@ use Rattle.store.proofs.ListedTables.{so_far, of_each, is_next, not_alone}
 use Rattle.store.proofs.Among.{is_among, stands_among}
 use Rattle.store.proofs.reading.is_alone.Goals as goal
 
-pub loop-other-init : goal.loop-other-init
-loop-other-init c other h = absurd h
-
 pub loop-other-preserved : goal.loop-other-preserved
 loop-other-preserved c =
     so_far (λ other. other ≢ c.args.table → IsElsewhere other c.args.tree c.args.schema.now) c.args.tables.now c.loop-other.other-index _ c.loop-other-test.true c.loop-other.invariant (c.shares.ensures.wrong c.if-shares.false)

@@ -1,6 +1,5 @@
-use Rattle.store.proofs.Common.{Storage, state, Change, RowOf, AreRowsOf, migrating_changes, FindsOffice, Damaged, ◌≡◌, Err, List, subst, sym, rules}
+use Rattle.store.proofs.Common.{state, Change, RowOf, AreRowsOf, migrating_changes, FindsOffice, Damaged, ◌≡◌, Err, List, subst, sym, rules}
 use Rattle.store.proofs.FoundOffice.{found_in}
-use Rattle.store.proofs.Readings.{reads_as, reads_ok, reads_past}
 use Rattle.store.proofs.reading.office_in.Goals as goal
 
 pub returns-clause-ok : goal.returns-clause-ok
@@ -19,18 +18,3 @@ returns-in_err-office-clause-damaged g c clean h o fit stands =
     let was : c.office_from.result ≡ Err Damaged = search rules in
     let held = c.in_ok-rows.ensures.rows clean in
     c.office_from.ensures.unfit was o fit (subst (λ (it : List RowOf). AreRowsOf it o) (sym c.in_ok-all.ensures) ((c.migrated_rows_law.ensures e rows o held.none_later fit).0 (held.are o stands)))
-
-pub returns-in_err-rows-clause-reads : goal.returns-in_err-rows-clause-reads
-returns-in_err-rows-clause-reads g c = reads_as _ _ _ _ _ _ _ (λ h. let was : c.rows_in.result ≡ Err Storage = search rules in was) c.rows_in.ensures.reads
-
-pub returns-in_err-changes-clause-reads : goal.returns-in_err-changes-clause-reads
-returns-in_err-changes-clause-reads g c = reads_past _ _ _ _ _ _ _ _ (λ is. search rules) c.in_ok-rows.ensures.reads
-
-pub returns-in_err-all-clause-reads : goal.returns-in_err-all-clause-reads
-returns-in_err-all-clause-reads g c = reads_past _ _ _ _ _ _ _ _ (λ is. search rules) c.in_ok-rows.ensures.reads
-
-pub returns-in_err-office-clause-reads : goal.returns-in_err-office-clause-reads
-returns-in_err-office-clause-reads g c = reads_past _ _ _ _ _ _ _ _ (λ is. search rules) c.in_ok-rows.ensures.reads
-
-pub returns-clause-reads : goal.returns-clause-reads
-returns-clause-reads g c = reads_ok _ _ _ _ _ _ _ _ c.in_ok-rows.ensures.reads

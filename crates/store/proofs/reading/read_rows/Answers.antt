@@ -1,18 +1,8 @@
-use Rattle.store.specs.Inside.Reading.{IsHinderedReadingIn}
 use Rattle.store.proofs.Common.{HasCleanDisk, state, Damaged, HoldsUnread, ReadsAll, ReadsSome, Storage, ◌≡◌, ◌≢◌, ◌+◌, length, Err, sym, ap, subst, ◌∙◌, arith, rules}
-use Rattle.store.proofs.AllRows.{reads_none, reads_more, reads_all, unread_then}
+use Rattle.store.proofs.ReadRows.{reads_more, reads_all, unread_then}
 use Rattle.store.proofs.Among.{are_once, once, some_tables}
-use Rattle.store.proofs.Causes.{table_unread}
-use Rattle.store.proofs.Readings.{reads_as, reads_nothing, reads_ok, reads_past, reads_then}
+use Rattle.store.proofs.Readings.{table_unread, reads_as, reads_ok, reads_then}
 use Rattle.store.proofs.reading.read_rows.Goals as goal
-
-pub loop-table-init : goal.loop-table-init
-loop-table-init g c =
-    let now = state g.S.Store c.args.conn.now in
-    record {
-      reading = reads_nothing Storage (IsHinderedReadingIn c.args.edition) now;
-      reads = λ clean. subst (λ rows. ReadsSome c.rolls_of-tables.result.now 0 rows now now) (sym c.new-rows.ensures.items) (reads_none c.rolls_of-tables.result.now now);
-    }
 
 pub loop-table-preserved : goal.loop-table-preserved
 loop-table-preserved g c =
@@ -42,13 +32,6 @@ returns-in_err-more-clause-reads g c =
     reads_then Storage Storage _ _ _ _ _ old mid _ c.loop-table.invariant.reading
     (reads_as Storage Storage _ _ _ mid _ (λ h. let was : c.read_table.result ≡ Err Storage = search rules in was) c.read_table.ensures.reads)
     (λ clean up h. table_unread c.args.edition c.rolls_of-tables.result.now c.rolls_of-tables.ensures c.loop-table.table-index _ _ old.now mid.now c.loop-table-test.true ((c.loop-table.invariant.reads clean).same up).0.now_is h)
-
-pub returns-in_err-append-clause-reads : goal.returns-in_err-append-clause-reads
-returns-in_err-append-clause-reads g c =
-    reads_then Storage Storage _ (λ _ _. ⊥) _ _ _ (state g.S.Store c.args.conn.now) (state g.S.Store c.loop-table.conn) _ c.loop-table.invariant.reading (reads_past _ Storage _ _ _ _ (state g.S.Store c.loop-table.conn) _ (λ is. search rules) c.in_ok-more.ensures.reads) (λ clean up h. absurd h)
-
-pub returns-clause-reads : goal.returns-clause-reads
-returns-clause-reads g c = reads_ok _ _ _ _ _ _ _ _ c.loop-table.invariant.reading
 
 pub returns-clause-rows : goal.returns-clause-rows
 returns-clause-rows g c clean =

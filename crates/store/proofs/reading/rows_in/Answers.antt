@@ -1,15 +1,8 @@
 use Rattle.store.proofs.Common.{Values, HasCleanDisk, state, IsHinderedReading, Edition, Damaged, Storage, number_of, rolls_of, numbered, AreAllListed, ◌≡◌, ◌≢◌, inl, refl, sym, ap, ◌∙◌, Err, List, map, drop, subst, arith, rules}
-use Rattle.store.proofs.AllRows.{none_back, holds_back, unchanged_then}
-use Rattle.store.proofs.Causes.{of_storage, rows_unread}
+use Rattle.store.proofs.ReadRows.{none_back, holds_back, unchanged_then, are_in, other_number, stood, unlisted, unread}
+use Rattle.store.proofs.Readings.{of_storage, rows_unread, reads_as, reads_nothing, reads_then}
 use Rattle.store.proofs.Among.{none_later}
-use Rattle.store.proofs.ReadRows.{are_in, other_number, stood, unlisted, unread}
-use Rattle.store.proofs.Readings.{reads_as, reads_nothing, reads_ok, reads_past, reads_then}
 use Rattle.store.proofs.reading.rows_in.Goals as goal
-
-pub returns-then-not-are_all_listed-clause-damaged : goal.returns-then-not-are_all_listed-clause-damaged
-returns-then-not-are_all_listed-clause-damaged g c clean h =
-    unlisted c.args.edition (state g.S.Store c.args.conn.now).now (λ l. c.are_all_listed.ensures.wrong c.if-not-are_all_listed.true
-    (subst (λ tables. AreAllListed tables c.schema.result.now) (sym c.rolls_of.ensures) (subst (AreAllListed (rolls_of c.args.edition)) (sym c.schema.ensures.value) l)))
 
 pub returns-in_err-need_number-clause-damaged : goal.returns-in_err-need_number-clause-damaged
 returns-in_err-need_number-clause-damaged g c clean h =
@@ -41,9 +34,6 @@ returns-clause-rows g c clean =
       are = are_in old c.schema.ensures.live shows.same.0.was_open c.args.edition rows (λ table among. holds_back table _ _ _ shows.same.0.now_is (all.holds table among)) all.others;
     }
 
-pub returns-then-not-are_all_listed-clause-reads : goal.returns-then-not-are_all_listed-clause-reads
-returns-then-not-are_all_listed-clause-reads g c = reads_past _ _ _ _ _ _ _ _ (λ is. absurd (cc)) (reads_nothing Damaged IsHinderedReading (state g.S.Store c.args.conn.now))
-
 pub returns-in_err-number-clause-reads : goal.returns-in_err-number-clause-reads
 returns-in_err-number-clause-reads g c =
     let listed = subst (AreAllListed (rolls_of c.args.edition)) c.schema.ensures.value (subst (λ tables. AreAllListed tables c.schema.result.now) c.rolls_of.ensures (c.are_all_listed.ensures.right c.if-not-are_all_listed.false)) in
@@ -51,9 +41,6 @@ returns-in_err-number-clause-reads g c =
     reads_then Storage Storage IsHinderedReading _ _ _ _ old old _ (reads_nothing Storage IsHinderedReading old)
     (reads_as _ _ _ _ _ _ _ (λ h. c.in_err-number.was ∙ ap Err (of_storage _ (sym (rw h at c.from_residual.ensures.1)))) c.read.ensures.reads)
     (λ clean up h. record { edition = c.args.edition; listed = listed; table = Edition; among = inl refl; hindered = h })
-
-pub returns-in_err-need_number-clause-reads : goal.returns-in_err-need_number-clause-reads
-returns-in_err-need_number-clause-reads g c = reads_past _ _ _ _ _ _ _ _ (λ is. search rules) c.in_ok-number.ensures.reads
 
 pub returns-in_err-rows-clause-reads : goal.returns-in_err-rows-clause-reads
 returns-in_err-rows-clause-reads g c =
@@ -63,6 +50,7 @@ returns-in_err-rows-clause-reads g c =
     reads_then _ _ _ _ _ _ _ old mid _ c.in_ok-number.ensures.reads (reads_as _ _ _ _ _ mid _ (λ h. let was : c.read_rows.result ≡ Err Storage = search rules in was) c.read_rows.ensures.reads)
     (λ clean up h. rows_unread c.args.edition _ old.now mid.now listed (c.in_ok-number.ensures.rows clean).same.0.now_is h)
 
-pub returns-clause-reads : goal.returns-clause-reads
-returns-clause-reads g c =
-    reads_then _ Storage _ (λ _ _. ⊥) _ _ _ (state g.S.Store c.args.conn.now) (state g.S.Store c.read.new.conn) _ c.in_ok-number.ensures.reads (reads_ok _ _ _ _ _ _ _ _ c.in_ok-rows.ensures.reads) (λ clean up h. absurd h)
+pub returns-then-not-are_all_listed-clause-damaged : goal.returns-then-not-are_all_listed-clause-damaged
+returns-then-not-are_all_listed-clause-damaged g c clean h =
+    unlisted c.args.edition (state g.S.Store c.args.conn.now).now (λ l. c.are_all_listed.ensures.wrong c.if-not-are_all_listed.true
+    (subst (λ tables. AreAllListed tables c.schema.result.now) (sym c.rolls_of.ensures) (subst (AreAllListed (rolls_of c.args.edition)) (sym c.schema.ensures.value) l)))
