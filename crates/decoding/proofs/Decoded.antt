@@ -77,13 +77,13 @@ kind_read _ = refl
 -- ---- entries
 
 -- an entry that is there where it has the form
-told_by : {E : Type 0} (cells : E → Cells) (Form : E → Type 0) (row : Cells) (b : Bool) (x e : E) → where_so b x ≡ Some e → cells x ≡ row → (b ≡ true → Form x) → IsDecoded cells Form row e
-told_by cells Form row true x e h is form = let same : x ≡ e = cc in subst (IsDecoded cells Form row) same (record { is = is; form = form refl })
-told_by cells Form row false x e h is form = cc
+decoded_where : {E : Type 0} (cells : E → Cells) (Form : E → Type 0) (row : Cells) (b : Bool) (x e : E) → where_so b x ≡ Some e → cells x ≡ row → (b ≡ true → Form x) → IsDecoded cells Form row e
+decoded_where cells Form row true x e h is form = let same : x ≡ e = cc in subst (IsDecoded cells Form row) same (record { is = is; form = form refl })
+decoded_where cells Form row false x e h is form = cc
 
 pub supervisor_decoded : (row : Cells) (e : Supervisor) → supervisor_in row ≡ Some e → IsDecoded supervisor_cells SupervisorFits row e
 supervisor_decoded (Text code ∷ Text label ∷ Number quota ∷ []) e h =
-    told_by supervisor_cells SupervisorFits _ _ _ e h refl (λ so. record { code = first_so _ _ so; label = first_so _ _ (second_so _ _ so); quota = at_most _ _ (second_so _ _ (second_so _ _ so)) })
+    decoded_where supervisor_cells SupervisorFits _ _ _ e h refl (λ so. record { code = first_so _ _ so; label = first_so _ _ (second_so _ _ so); quota = at_most _ _ (second_so _ _ (second_so _ _ so)) })
 supervisor_decoded _ e h = cc
 
 pub supervisor_read : (e : Supervisor) → SupervisorFits e → supervisor_in (supervisor_cells e) ≡ Some e
@@ -91,7 +91,7 @@ supervisor_read e fits = ap (λ b. where_so b e) (and_from _ _ fits.code (and_fr
 
 pub project_decoded : (row : Cells) (e : Project) → project_in row ≡ Some e → IsDecoded project_cells ProjectForm row e
 project_decoded (Text code ∷ Text label ∷ Text supervisor ∷ Number quota ∷ []) e h =
-    told_by project_cells ProjectForm _ _ _ e h refl (λ so. (let rest = second_so _ _ (second_so _ _ so) in record {
+    decoded_where project_cells ProjectForm _ _ _ e h refl (λ so. (let rest = second_so _ _ (second_so _ _ so) in record {
       code = first_so _ _ so;
       label = first_so _ _ (second_so _ _ so);
       supervisor = first_so _ _ rest;
@@ -103,7 +103,7 @@ pub project_read : (e : Project) → ProjectForm e → project_in (project_cells
 project_read e fits = ap (λ b. where_so b e) (and_from _ _ fits.code (and_from _ _ fits.label (and_from _ _ fits.supervisor (within _ _ fits.quota))))
 
 pub student_decoded : (row : Cells) (e : Student) → student_in row ≡ Some e → IsDecoded student_cells StudentFits row e
-student_decoded (Text code ∷ Text label ∷ []) e h = told_by student_cells StudentFits _ _ _ e h refl (λ so. record { code = first_so _ _ so; label = second_so _ _ so })
+student_decoded (Text code ∷ Text label ∷ []) e h = decoded_where student_cells StudentFits _ _ _ e h refl (λ so. record { code = first_so _ _ so; label = second_so _ _ so })
 student_decoded _ e h = cc
 
 pub student_read : (e : Student) → StudentFits e → student_in (student_cells e) ≡ Some e
@@ -130,7 +130,7 @@ round_aim_read e =
     ap (option_map (λ generous. record { round = e.round; aim = aim_of generous })) (flag_read (is_generous e.aim)) ∙ ap (λ aim. Some (record { round = e.round; aim = aim })) (aim_back e.aim)
 
 pub placement_decoded : (row : Cells) (e : Placement) → placement_in row ≡ Some e → IsDecoded placement_cells PlacementForm row e
-placement_decoded (Text student ∷ Number round ∷ Text project ∷ Number rank ∷ []) e h = told_by placement_cells PlacementForm _ _ _ e h refl (λ so. so)
+placement_decoded (Text student ∷ Number round ∷ Text project ∷ Number rank ∷ []) e h = decoded_where placement_cells PlacementForm _ _ _ e h refl (λ so. so)
 placement_decoded _ e h = cc
 
 pub placement_read : (e : Placement) → PlacementForm e → placement_in (placement_cells e) ≡ Some e
@@ -139,7 +139,7 @@ placement_read e form = ap (λ b. where_so b e) form
 import_of_kind : (id word bytes : List ℕ) (rows : ℕ) (e : Import) (x : Option ImportKind) → kind_in word ≡ x → import_of id bytes rows x ≡ Some e → IsDecoded import_cells ImportFits (Text id ∷ Text word ∷ Bytes bytes ∷ Number rows ∷ []) e
 import_of_kind id word bytes rows e None is h = cc
 import_of_kind id word bytes rows e (Some kind) is h =
-    told_by import_cells ImportFits _ _ _ e h (ap (λ word. Text id ∷ Text word ∷ Bytes bytes ∷ Number rows ∷ []) (kind_decoded word kind is))
+    decoded_where import_cells ImportFits _ _ _ e h (ap (λ word. Text id ∷ Text word ∷ Bytes bytes ∷ Number rows ∷ []) (kind_decoded word kind is))
     (λ so. record { id = first_so _ _ so; bytes = at_most _ _ (first_so _ _ (second_so _ _ so)); rows = at_most _ _ (second_so _ _ (second_so _ _ so)) })
 
 pub import_decoded : (row : Cells) (e : Import) → import_in row ≡ Some e → IsDecoded import_cells ImportFits row e

@@ -46,9 +46,9 @@ no_cell (l ∷ kinds) (suc i) k rest low is none (c ∷ cells) are typed same =
 -- where a column is no cell of its kind no row has the columns
 pub no_row : (table : Table) (kinds : List Kind) → kinds ≡ kinds_of table → (columns : Values) (i : ℕ) (k : Kind) → i < length kinds → k ≡ get_or kinds i k
     → ((cell : Cell) → IsTyped cell → is_of k cell ≡ true → column columns (i + 1) ≢ value_of cell) → IsNoRow table (drop 1 columns)
-no_row table kinds told columns i k low is none cells typed same =
+no_row table kinds as_kinds columns i k low is none cells typed same =
     no_cell kinds i k (drop 1 columns) low is (λ cell t one h. none cell t one (ap (λ n. get_or columns n Null) next ∙ sym (get_next columns i) ∙ h)) cells
-    (subst (λ ks. are_of ks cells ≡ true) (sym told) (second_so (not (same_table table Edition)) (are_of (kinds_of table) cells) typed.0)) typed.1 same
+    (subst (λ ks. are_of ks cells ≡ true) (sym as_kinds) (second_so (not (same_table table Edition)) (are_of (kinds_of table) cells) typed.0)) typed.1 same
   where
     next : i + 1 ≡ suc i
     next = omega arith

@@ -117,10 +117,12 @@ pub fn transact<S: Alter>(
 ) -> Result<(), StoreFault>
     ensures saved { HasCleanDisk (state S.Store conn.new)
         → OnOk result (HasSaved (let it = task_of task changes.now in it.does) (state S.Store conn.old) (state S.Store conn.new)) }
-    ensures safe { IsSafe S.Store (MayRecoverTo (let it = task_of task changes.now in it.does) (state S.Store conn.old)) result conn.old conn.new }
+    ensures safe { IsSafe S.Store (MayRecoverTo (let it = task_of task changes.now in it.does) (state S.Store conn.old)) result
+        conn.old conn.new }
     ensures faults { result ≢ Err StoreFault.Damaged }
     ensures cause { conn.old.in_transaction ≡ false
-        → IsCaused StoreFault.Storage (let it = task_of task changes.now in it.hinders) result (state S.Store conn.old) (state S.Store conn.new) }
+        → IsCaused StoreFault.Storage (let it = task_of task changes.now in it.hinders) result
+        (state S.Store conn.old) (state S.Store conn.new) }
 {
     if !conn.is_autocommit() {
         return Err(StoreFault::Storage);

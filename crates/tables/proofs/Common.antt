@@ -92,7 +92,7 @@ pub use Rattle.tables.specs.Faults.{fault_of}
 pub use Rattle.tables.specs.Inert.{IsActedOn}
 pub use Rattle.tables.specs.Inside.Causes.{IsHindered, IsText, IsWriteOf, plain_mode}
 pub use Rattle.tables.specs.Inside.Steps.{id_of, HasRun, RanQuery, Stays}
-pub use Rattle.tables.specs.Inside.Layout.{IsTableNamed, are_of_one, are_plain, are_strict, are_told, has_shape, is_alone, is_bare, is_binary, is_nothing, is_referring, is_required, is_untimed, place_of, same_key}
+pub use Rattle.tables.specs.Inside.Layout.{IsTableNamed, are_of_one, are_plain, are_strict, are_declared, has_shape, is_alone, is_bare, is_binary, is_nothing, is_referring, is_required, is_untimed, place_of, same_key}
 pub use Rattle.tables.specs.Inside.Table.{column_by, entering, link_by, places_by, removal}
 pub use Rattle.tables.specs.Keyed.{IsKeyed, Stands, have_ids, rises}
 pub use Rattle.tables.specs.Layout.{IsListed}

@@ -57,8 +57,8 @@ given_in kind is_strict at = col 0 at
 abbrev pub given_at : List (List ℕ × Kind) → Bool → ℕ → ℕ → Term
 given_at columns is_strict zero at = col 0 at
 given_at [] is_strict (suc place) at = col 0 at
-given_at (told ∷ columns) is_strict (suc zero) at = given_in told.1 is_strict at
-given_at (told ∷ columns) is_strict (suc (suc place)) at = given_at columns is_strict (suc place) at
+given_at (declared ∷ columns) is_strict (suc zero) at = given_in declared.1 is_strict at
+given_at (declared ∷ columns) is_strict (suc (suc place)) at = given_at columns is_strict (suc place) at
 
 -- and as it is resolved, in a table that is STRICT or not
 abbrev pub equals_from : List (List ℕ × Kind) → Bool → ℕ → List ℕ → List Term
@@ -99,7 +99,7 @@ module _ (shape : TableShape) where
   width = length shape.columns
 
   abbrev pub names_of : List (List ℕ)
-  names_of = map (λ (told : List ℕ × Kind). told.0) shape.columns
+  names_of = map (λ (declared : List ℕ × Kind). declared.0) shape.columns
 
   -- INSERT of a row of parameters
   abbrev pub given_rows : Rows

@@ -1,5 +1,5 @@
 -- A table that passes the tests is one of its shape, at its place.
-use Rattle.tables.proofs.Common.{option_map_or, list_all, bytes_eq, and_parts, cases_Bool, Decides-eqb, map-id, Integer, Real, Text, Blob, Any, Table, Schema, plain, Order, Reference, kind_code, Ours, TableShape, shape_of, table_at, Place, all_referring, kind_in, required, referring, ascending, made_at, is_nothing, is_binary, same_key, are_of_one, are_strict, is_alone, is_bare, is_required, is_referring, are_told, are_plain, is_untimed, has_shape, IsTableNamed, place_of, IsListed, ◌≡◌, inl, inr, ℕ, Bool, true, false, not, ◌==◌, ◌&&◌, ◌||◌, if◌then◌else◌, List, [], ◌∷◌, length, slice_get, Option, Some, None, map, refl, sym, ap, subst, ◌∙◌, arith}
+use Rattle.tables.proofs.Common.{option_map_or, list_all, bytes_eq, and_parts, cases_Bool, Decides-eqb, map-id, Integer, Real, Text, Blob, Any, Table, Schema, plain, Order, Reference, kind_code, Ours, TableShape, shape_of, table_at, Place, all_referring, kind_in, required, referring, ascending, made_at, is_nothing, is_binary, same_key, are_of_one, are_strict, is_alone, is_bare, is_required, is_referring, are_declared, are_plain, is_untimed, has_shape, IsTableNamed, place_of, IsListed, ◌≡◌, inl, inr, ℕ, Bool, true, false, not, ◌==◌, ◌&&◌, ◌||◌, if◌then◌else◌, List, [], ◌∷◌, length, slice_get, Option, Some, None, map, refl, sym, ap, subst, ◌∙◌, arith}
 use Rattle.std.proofs.lemmas.Slice.Eq.{bytes_eq-Decides}
 use Rattle.sqlite.specs.Kind.{Kind}
 use Rattle.sqlite_value.specs.declared.value.Value.{Value}
@@ -41,12 +41,12 @@ five_parts a b c d e h = let p = and_parts (a && b && c && d) e h in let q = fou
 six_parts : (a b c d e f : Bool) → (a && b && c && d && e && f) ≡ true → (a ≡ true) × (b ≡ true) × (c ≡ true) × (d ≡ true) × (e ≡ true) × (f ≡ true)
 six_parts a b c d e f h = let p = and_parts (a && b && c && d && e) f h in let q = five_parts a b c d e p.0 in (q.0, q.1, q.2, q.3, q.4, p.1)
 
-required_is : (is_strict : Bool) (told : List ℕ × Kind) (c : Column) → c.is_strict ≡ is_strict → is_required told c ≡ true → c ≡ required is_strict told
-required_is is_strict told c strict h =
+required_is : (is_strict : Bool) (declared : List ℕ × Kind) (c : Column) → c.is_strict ≡ is_strict → is_required declared c ≡ true → c ≡ required is_strict declared
+required_is is_strict declared c strict h =
     let p = five_parts _ _ _ _ _ h in
     λ i. record {
-      name = same_bytes c.name told.0 p.0 i;
-      kind = (kind_is c.kind (kind_in told.1 c.is_strict) p.1 ∙ ap (kind_in told.1) strict) i;
+      name = same_bytes c.name declared.0 p.0 i;
+      kind = (kind_is c.kind (kind_in declared.1 c.is_strict) p.1 ∙ ap (kind_in declared.1) strict) i;
       is_strict = strict i;
       not_null = p.2 i;
       default = nothing_is c.default p.3 i;
@@ -54,18 +54,18 @@ required_is is_strict told c strict h =
     }
 
 -- lists whose entries are as declared are made of what is declared
-told_are : {A B : Type 0} (is : A → B → Bool) (make : A → B) → ((a : A) (b : B) → is a b ≡ true → b ≡ make a) → (said : List A) (bs : List B) → are_told is said bs ≡ true → bs ≡ map make said
-told_are is make made [] [] h = refl
-told_are is make made (a ∷ said) (b ∷ bs) h = let p = and_parts _ _ h in λ i. made a b p.0 i ∷ told_are is make made said bs p.1 i
-told_are is make made [] (b ∷ bs) h = absurd (cc)
-told_are is make made (a ∷ said) [] h = absurd (cc)
+declared_are : {A B : Type 0} (is : A → B → Bool) (make : A → B) → ((a : A) (b : B) → is a b ≡ true → b ≡ make a) → (said : List A) (bs : List B) → are_declared is said bs ≡ true → bs ≡ map make said
+declared_are is make made [] [] h = refl
+declared_are is make made (a ∷ said) (b ∷ bs) h = let p = and_parts _ _ h in λ i. made a b p.0 i ∷ declared_are is make made said bs p.1 i
+declared_are is make made [] (b ∷ bs) h = absurd (cc)
+declared_are is make made (a ∷ said) [] h = absurd (cc)
 
 falls : (b : Bool) → not b ≡ true → b ≡ false
 falls true h = absurd (cc)
 falls false h = refl
 
 -- columns that are declared and are each of a table that is STRICT, or each of one that is not
-columns_are : (is_strict : Bool) (said : List (List ℕ × Kind)) (cs : List Column) → list_all (λ (c : Column). if is_strict then c.is_strict else not c.is_strict) cs ≡ true → are_told is_required said cs ≡ true
+columns_are : (is_strict : Bool) (said : List (List ℕ × Kind)) (cs : List Column) → list_all (λ (c : Column). if is_strict then c.is_strict else not c.is_strict) cs ≡ true → are_declared is_required said cs ≡ true
     → cs ≡ map (required is_strict) said
 columns_are is_strict [] [] all h = refl
 columns_are is_strict (a ∷ said) (c ∷ cs) all h =
@@ -84,7 +84,7 @@ other_way true b h is = absurd (cc)
 other_way false b h is = h
 
 -- the columns of a table are all of one that is STRICT or not
-one_kind : (said : List (List ℕ × Kind)) (cs : List Column) → are_of_one cs ≡ true → are_told is_required said cs ≡ true → cs ≡ map (required (are_strict cs)) said
+one_kind : (said : List (List ℕ × Kind)) (cs : List Column) → are_of_one cs ≡ true → are_declared is_required said cs ≡ true → cs ≡ map (required (are_strict cs)) said
 one_kind said cs one h = elim (cases_Bool (are_strict cs)) [
   | inl strict ↦ columns_are true said cs strict h ∙ ap (λ b. map (required b) said) (sym strict)
   | inr loose ↦ columns_are false said cs (other_way _ _ one loose) h ∙ ap (λ b. map (required b) said) (sym loose)
@@ -129,7 +129,7 @@ referring_is link r h =
     }
 
 -- references that are declared, some of which may be bare
-all_referring_are : (links : List (ℕ × List ℕ × List ℕ)) (rs : List Reference) → are_told is_referring links rs ≡ true → rs ≡ all_referring (map is_bare rs) links
+all_referring_are : (links : List (ℕ × List ℕ × List ℕ)) (rs : List Reference) → are_declared is_referring links rs ≡ true → rs ≡ all_referring (map is_bare rs) links
 all_referring_are [] [] h = refl
 all_referring_are (link ∷ links) (r ∷ rs) h = let p = and_parts _ _ h in λ i. referring_is link r p.0 i ∷ all_referring_are links rs p.1 i
 all_referring_are [] (r ∷ rs) h = absurd (cc)
@@ -176,7 +176,7 @@ shape_is shape t h =
       columns = one_kind shape.columns t.columns p.3 p.2 i;
       key = same_key_is t.key shape.key k.0 i;
       primary = same_bytes t.primary shape.primary k.1 i;
-      uniques = (told_are (λ places list. bytes_eq list places) (λ places. places) (λ places list. same_bytes list places) shape.uniques t.uniques k.2 ∙ map-id shape.uniques) i;
+      uniques = (declared_are (λ places list. bytes_eq list places) (λ places. places) (λ places list. same_bytes list places) shape.uniques t.uniques k.2 ∙ map-id shape.uniques) i;
       orders = plain_are (length shape.uniques) t.orders k.3 i;
       checks = t.checks;
       references = all_referring_are shape.links t.references p.4 i;
@@ -189,7 +189,7 @@ shape_is shape t h =
 pub listed_as : (schema : Schema) (table : Place → Table) (t : Table) → (named : IsTableNamed schema (table (place_of t)).name t) → t ≡ table (place_of t) → IsListed table schema t.tree
 listed_as schema table t named is = ((place_of t).rules, record { at = named.at; named = named.named; there = named.there ∙ ap Some is })
 
-module _ (schema : Schema) (table : Ours) (told : TableShape) (is : told ≡ shape_of table) where
+module _ (schema : Schema) (table : Ours) (declared : TableShape) (is : declared ≡ shape_of table) where
   -- a table that is found by the declared name and passes for the declared shape is listed
-  pub listed_by : (t : Table) → IsTableNamed schema told.name t → has_shape told t ≡ true → IsListed (table_at table) schema t.tree
+  pub listed_by : (t : Table) → IsTableNamed schema declared.name t → has_shape declared t ≡ true → IsListed (table_at table) schema t.tree
   listed_by t named h = listed_as schema (table_at table) t (subst (λ (shape : TableShape). IsTableNamed schema shape.name t) is named) (shape_is (shape_of table) t (subst (λ (shape : TableShape). has_shape shape t ≡ true) is h))

@@ -23,9 +23,9 @@ rising (r ∷ next ∷ rows) h =
     let later = rising (next ∷ rows) parts.1 in
     ((first, all_from _ rows (λ y h. value_cmp_total.trans (rowid r) (rowid next) (rowid y) first (all_has _ rows y later.0 h))), later)
 
-told : (rows : List Row) → IsAscending Below rows → IsAscending (λ a b. is_eq (value_cmp (rowid a) (rowid b)) ≡ false) rows
-told [] up = tt
-told (r ∷ rows) up = (all_from _ rows (λ y h. apart _ (all_has _ rows y up.0 h)), told rows up.1)
+all_apart : (rows : List Row) → IsAscending Below rows → IsAscending (λ a b. is_eq (value_cmp (rowid a) (rowid b)) ≡ false) rows
+all_apart [] up = tt
+all_apart (r ∷ rows) up = (all_from _ rows (λ y h. apart _ (all_has _ rows y up.0 h)), all_apart rows up.1)
 
 each : (rows : List Row) → have_ids rows ≡ true → AllByRecursion (λ r. is_int (rowid r) ≡ true) rows
 each [] h = tt
@@ -33,4 +33,4 @@ each (r ∷ rows) h = let parts = and_parts _ _ h in (parts.0, each rows parts.1
 
 -- rows with rising integers as rowids are keyed
 pub keyed_if_rising : (rows : List Row) → have_ids rows ≡ true → rises rows ≡ true → IsKeyed rows
-keyed_if_rising rows ids up = record { ids = each rows ids; apart = told rows (rising rows up) }
+keyed_if_rising rows ids up = record { ids = each rows ids; apart = all_apart rows (rising rows up) }

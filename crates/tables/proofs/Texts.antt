@@ -135,22 +135,22 @@ abbrev nowhere : Place
 nowhere = record { tree = 0; rules = record { is_strict = true; bare = []; checks = [] } }
 
 module _ (table : Table) (it : Texts table) where
-  abbrev told : TableShape
-  told = shape_of table
+  abbrev declared : TableShape
+  declared = shape_of table
 
-  creates_only : (schema : Schema) (base : ℕ) (k : Command) → command schema [] base (written.CreateTable (create_of told it.read.body)) ≡ Ok k → k ≡ MakesTable
+  creates_only : (schema : Schema) (base : ℕ) (k : Command) → command schema [] base (written.CreateTable (create_of declared it.read.body)) ≡ Ok k → k ≡ MakesTable
   unfolding command create_table
-  creates_only schema base k h = made_command schema told.name k (rw it.read.defined at h)
+  creates_only schema base k h = made_command schema declared.name k (rw it.read.defined at h)
 
   create_unlisted : if_select (compiled listing_schema (said table).create) ≡ Err NoSuchTable
   unfolding compiled planned meaning timed returning
-  create_unlisted = rw it.read.create (not_select (read_as (said table).create (written.CreateTable (create_of told it.read.body)) 0) _ (λ k h. ap is_select (creates_only listing_schema _ k h)))
+  create_unlisted = rw it.read.create (not_select (read_as (said table).create (written.CreateTable (create_of declared it.read.body)) 0) _ (λ k h. ap is_select (creates_only listing_schema _ k h)))
 
   -- the text that makes the table
-  pub create_is : IsCreate (said table).create told (rules_of table)
+  pub create_is : IsCreate (said table).create declared (rules_of table)
   unfolding timed returning table_defined_by table_in
   create_is = record {
-    p = read_as (said table).create (written.CreateTable (create_of told it.read.body)) 0;
+    p = read_as (said table).create (written.CreateTable (create_of declared it.read.body)) 0;
     parsed = it.read.create;
     unlisted = create_unlisted;
     untimed = λ schema. refl;
@@ -158,17 +158,17 @@ module _ (table : Table) (it : Texts table) where
     commands = λ schema. creates_only schema _;
     whole = read_whole (said table).create;
     defined = rw it.read.create it.read.defined;
-    named = same_itself told.name;
+    named = same_itself declared.name;
   }
 
   -- the text that adds a row
-  pub insert_is : IsInsert (said table).insert told (kinds_of table)
+  pub insert_is : IsInsert (said table).insert declared (kinds_of table)
   insert_is = record {
-    p = read_as (said table).insert (insert_of told) (width told);
-    columns = names_of told;
-    values = given_rows told;
-    terms = terms_of told;
-    width = suc (width told);
+    p = read_as (said table).insert (insert_of declared) (width declared);
+    columns = names_of declared;
+    values = given_rows declared;
+    terms = terms_of declared;
+    width = suc (width declared);
     parsed = it.read.insert;
     statement = refl;
     plain = refl;
@@ -179,21 +179,21 @@ module _ (table : Table) (it : Texts table) where
     typed = λ row is. (by_kinds (kinds_of table) (Gives table nowhere) (it.rows nowhere) row is).typed;
     given = λ place row is.
         let gives = by_kinds (kinds_of table) (Gives table place) (it.rows place) row is in
-        record { source = laid_out Null told.key (values row); is = refl; cast = gives.cast; one = gives.one };
+        record { source = laid_out Null declared.key (values row); is = refl; cast = gives.cast; one = gives.one };
   }
 
   -- what holds of each row of kinds holds of cells that are of them
   accepted_of : (before count : ℕ) (project : List Term) (kinds : List Kind) → ((is_strict : Bool) → AreAccepted table before count project kinds is_strict) → (schema : Schema) (place : Place) → IsFirst schema (table_at table place)
-      → IsAccepted schema place.tree (finds_of told place.rules.is_strict before count) project [] × ((row : Cells) → are_of kinds row ≡ true → IsAccepted schema place.tree (finds_of told place.rules.is_strict before count) project (values row))
+      → IsAccepted schema place.tree (finds_of declared place.rules.is_strict before count) project [] × ((row : Cells) → are_of kinds row ≡ true → IsAccepted schema place.tree (finds_of declared place.rules.is_strict before count) project (values row))
   accepted_of before count project kinds typed schema place first = let both = typed place.rules.is_strict schema place refl first in (both.0, by_kinds kinds _ both.1)
 
   -- a text that takes rows away
-  pub removal_is : (sql : List ℕ) (before : ℕ) (kinds : List Kind) → Removal table sql before kinds → IsDelete sql told kinds (goes_on before)
+  pub removal_is : (sql : List ℕ) (before : ℕ) (kinds : List Kind) → Removal table sql before kinds → IsDelete sql declared kinds (goes_on before)
   unfolding compiled planned meaning timed returning shows command delete
   removal_is sql before kinds removal = record {
-    test = test_of told before removal.count;
-    tests = λ is_strict. finds_of told is_strict before removal.count;
-    drafted = record { p = read_as sql (delete_of told before removal.count) removal.count; parsed = removal.read; statement = refl; plain = refl; whole = read_whole sql; ends = omega arith; unlisted = rw (removal.read, it.read.unlisted) refl; untimed = λ schema. refl; shows = λ schema base. refl; commands = λ schema base. refl };
+    test = test_of declared before removal.count;
+    tests = λ is_strict. finds_of declared is_strict before removal.count;
+    drafted = record { p = read_as sql (delete_of declared before removal.count) removal.count; parsed = removal.read; statement = refl; plain = refl; whole = read_whole sql; ends = omega arith; unlisted = rw (removal.read, it.read.unlisted) refl; untimed = λ schema. refl; shows = λ schema base. refl; commands = λ schema base. refl };
     draft = λ schema at place has. removal.tested place.rules.is_strict schema at place.tree place.rules.bare place.rules.checks has.there;
     counted = by_kinds kinds _ removal.counted;
     accepted = accepted_of before removal.count (col 1 0 ∷ []) kinds removal.typed;
@@ -201,17 +201,17 @@ module _ (table : Table) (it : Texts table) where
   }
 
   -- the text that sets a row by its key
-  pub update_is : IsUpdate (said table).update told (kinds_of table) (keyed table)
+  pub update_is : IsUpdate (said table).update declared (kinds_of table) (keyed table)
   unfolding compiled planned meaning timed returning shows command update
   update_is = record {
-    sets = sets_of told;
-    test = test_of told 0 (keyed table);
-    tests = λ is_strict. finds_of told is_strict 0 (keyed table);
-    values = values_of told;
-    drafted = record { p = read_as (said table).update (update_of told (keyed table)) (width told); parsed = it.read.update; statement = refl; plain = refl; whole = read_whole (said table).update; ends = omega arith; unlisted = rw (it.read.update, it.read.unlisted) refl; untimed = λ schema. refl; shows = λ schema base. refl; commands = λ schema base. refl };
+    sets = sets_of declared;
+    test = test_of declared 0 (keyed table);
+    tests = λ is_strict. finds_of declared is_strict 0 (keyed table);
+    values = values_of declared;
+    drafted = record { p = read_as (said table).update (update_of declared (keyed table)) (width declared); parsed = it.read.update; statement = refl; plain = refl; whole = read_whole (said table).update; ends = omega arith; unlisted = rw (it.read.update, it.read.unlisted) refl; untimed = λ schema. refl; shows = λ schema base. refl; commands = λ schema base. refl };
     draft = λ schema at place has. (it.tested place.rules.is_strict schema at place.tree place.rules.bare place.rules.checks has.there).change;
     counted = λ row is. (by_kinds (kinds_of table) (Gives table nowhere) (it.rows nowhere) row is).counted;
-    accepted = accepted_of 0 (keyed table) (showing (values_of told)) (kinds_of table) it.typed;
+    accepted = accepted_of 0 (keyed table) (showing (values_of declared)) (kinds_of table) it.typed;
     hits = λ place row is. (by_kinds (kinds_of table) (Gives table place) (it.rows place) row is).finds;
     put = λ place row is. (by_kinds (kinds_of table) (Gives table place) (it.rows place) row is).put;
   }
@@ -219,8 +219,8 @@ module _ (table : Table) (it : Texts table) where
   select_plain : IsPlainSelect (said table).select
   unfolding everything
   select_plain = record {
-    p = read_as (said table).select (written.Select (select_of told)) 0;
-    s = select_of told;
+    p = read_as (said table).select (written.Select (select_of declared)) 0;
+    s = select_of declared;
     parsed = it.read.select;
     statement = refl;
     plain = refl;
@@ -243,7 +243,7 @@ module _ (table : Table) (it : Texts table) where
   select_unlisted = rw (it.read.select, it.read.unlisted) refl
 
   select_resolved : (schema : Schema) (place : Place) (listed : Lists schema (table_at table place)) → nat_lt place.tree (2 ^ 31) ≡ true
-      → IsResolved schema (core_of told) told.name listed.at place.tree 99999 (outs_of told)
+      → IsResolved schema (core_of declared) declared.name listed.at place.tree 99999 (outs_of declared)
   unfolding everything
   select_resolved schema place listed low = record {
     bounds = rw listed.named refl;
@@ -252,13 +252,13 @@ module _ (table : Table) (it : Texts table) where
   }
 
   -- the text that reads the table
-  pub select_is : IsSelect (said table).select told
+  pub select_is : IsSelect (said table).select declared
   unfolding select_plain
   select_is = record {
     plain = select_plain;
     unlisted = select_unlisted;
     budget = 99999;
-    outs = outs_of told;
+    outs = outs_of declared;
     resolved = select_resolved;
     accepted = it.seen;
     shows = it.read.shows;

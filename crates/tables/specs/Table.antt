@@ -195,7 +195,7 @@ kind_in kind is_strict = kind
 
 -- a column of a table that is STRICT or not, which is NOT NULL and has no default
 abbrev pub required : Bool → List ℕ × Kind → Column
-required is_strict told = record { name = told.0; kind = kind_in told.1 is_strict; is_strict = is_strict; not_null = true; default = Null; collation = Binary }
+required is_strict declared = record { name = declared.0; kind = kind_in declared.1 is_strict; is_strict = is_strict; not_null = true; default = Null; collation = Binary }
 
 -- a reference from this column to a column of another table, with NO ACTION; a bare one does not name that column
 abbrev pub referring : Bool → ℕ × List ℕ × List ℕ → Reference

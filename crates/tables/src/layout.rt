@@ -3,13 +3,13 @@
 
 ghost use Rattle.std.specs.Prelude.{◌≡◌, ◌==◌, ℕ, map, false, slice_get, None, Some, IfSome};
 ghost use Rattle.tables.specs.Common.{bytes_eq, list_all, list_any, table_named, AnyTable};
-ghost use Rattle.tables.specs.Inside.Table.{column_by, link_by, places_by, told_by};
+ghost use Rattle.tables.specs.Inside.Table.{column_by, link_by, places_by, shape_by};
 ghost use Rattle.tables.specs.Table.{kind_in, shape_of, table_at};
-ghost use Rattle.tables.specs.Inside.Layout.{is_alone, is_required, are_loose, are_of_one, are_strict, are_told, is_referring, are_plain, is_untimed, has_keys, has_shape, IsTableNamed};
+ghost use Rattle.tables.specs.Inside.Layout.{is_alone, is_required, are_loose, are_of_one, are_strict, are_declared, is_referring, are_plain, is_untimed, has_keys, has_shape, IsTableNamed};
 ghost use Rattle.tables.specs.Layout.{IsListed, IsUnlisted, is_kept_of, is_there};
 
 use crate::inert::is_passive;
-use crate::table::{Link, Shape, Shaped, ToldColumn};
+use crate::table::{DeclaredColumn, Link, Shape, Shaped};
 use row_model::Table;
 use sqlite_items::Items;
 use sqlite_schema::names::same_name;
@@ -27,25 +27,25 @@ fn kind_in(kind: Kind, is_strict: bool) -> Kind
     }
 }
 
-fn is_required(column: &Column, told: &ToldColumn) -> bool
-    ensures { result ≡ is_required (column_by told.now) column.now }
+fn is_required(column: &Column, declared: &DeclaredColumn) -> bool
+    ensures { result ≡ is_required (column_by declared.now) column.now }
 {
     // By bytes, as codes are compared here: under another collation the database could call two keys one.
-    column.name.as_slice() == told.0.as_bytes()
-        && column.kind == kind_in(told.1, column.is_strict)
+    column.name.as_slice() == declared.0.as_bytes()
+        && column.kind == kind_in(declared.1, column.is_strict)
         && column.not_null
         && matches!(column.default, Value::Null)
         && matches!(column.collation, Collation::Binary)
 }
 
-fn are_required(columns: &[Column], told: &[ToldColumn]) -> bool
-    ensures { result ≡ are_told is_required (map column_by told.now) columns.now }
+fn are_required(columns: &[Column], declared: &[DeclaredColumn]) -> bool
+    ensures { result ≡ are_declared is_required (map column_by declared.now) columns.now }
 {
-    columns.len() == told.len()
+    columns.len() == declared.len()
         && columns
             .iter()
-            .zip(told)
-            .all(|(column, told)| is_required(column, told))
+            .zip(declared)
+            .all(|(column, declared)| is_required(column, declared))
 }
 
 fn are_strict(columns: &[Column]) -> bool
@@ -91,7 +91,7 @@ fn is_referring(reference: &Reference, link: &Link) -> bool
 }
 
 fn are_referring(references: &[Reference], links: &[Link]) -> bool
-    ensures { result ≡ are_told is_referring (map link_by links.now) references.now }
+    ensures { result ≡ are_declared is_referring (map link_by links.now) references.now }
 {
     references.len() == links.len()
         && references
@@ -100,13 +100,13 @@ fn are_referring(references: &[Reference], links: &[Link]) -> bool
             .all(|(reference, link)| is_referring(reference, link))
 }
 
-fn are_same(lists: &[Items<usize>], told: &[&[usize]]) -> bool
-    ensures { result ≡ are_told (λ places list. bytes_eq list places) (map places_by told.now) lists.now }
+fn are_same(lists: &[Items<usize>], declared: &[&[usize]]) -> bool
+    ensures { result ≡ are_declared (λ places list. bytes_eq list places) (map places_by declared.now) lists.now }
 {
-    lists.len() == told.len()
+    lists.len() == declared.len()
         && lists
             .iter()
-            .zip(told)
+            .zip(declared)
             .all(|(list, places)| list.as_slice() == *places)
 }
 
@@ -133,7 +133,7 @@ fn is_untimed(table: &SchemaTable) -> bool
 }
 
 fn has_keys(table: &SchemaTable, shape: &Shape) -> bool
-    ensures { result ≡ has_keys (told_by shape.now) table.now }
+    ensures { result ≡ has_keys (shape_by shape.now) table.now }
 {
     table.key == shape.keys.rowid
         && table.primary.as_slice() == shape.keys.primary
@@ -143,7 +143,7 @@ fn has_keys(table: &SchemaTable, shape: &Shape) -> bool
 
 /// Whether a table is as one of this shape is made, STRICT or not, and with references that may name no column.
 fn has_shape(table: &SchemaTable, shape: &Shape) -> bool
-    ensures { result ≡ has_shape (told_by shape.now) table.now }
+    ensures { result ≡ has_shape (shape_by shape.now) table.now }
 {
     // Letter for letter: a statement is known under one spelling of its table, although SQL finds `Student` too.
     table.name.as_slice() == shape.name.as_bytes()

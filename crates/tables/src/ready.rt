@@ -12,7 +12,7 @@ use sqlite::{Alter, Connection, Error};
 pub fn need_open<S: Alter>(conn: &mut Connection<S>) -> Result<(), TableFault>
     ensures same { HasCleanDisk (state S.Store conn.new) → OnOk result (IsUnchanged (state S.Store conn.old) (state S.Store conn.new)) }
     ensures sound { HasCleanDisk (state S.Store conn.new) → OnOk result (IsDatabase (state S.Store conn.new).now) }
-    ensures told { HasCleanDisk (state S.Store conn.new)
+    ensures fails { HasCleanDisk (state S.Store conn.new)
         → IfErr result (λ fault.
         (e : Error) × IsNotRun (state S.Store conn.old) (state S.Store conn.new) (codes "SELECT 1") [] e × (fault ≡ fault_of e)) }
     ensures reads { IsReading Storage (λ _ _. ⊥) result (state S.Store conn.old) (state S.Store conn.new) }

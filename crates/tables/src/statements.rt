@@ -77,7 +77,7 @@ pub fn leave<S: Alter>(tx: &mut Transaction<'_, S>, group: Group, cells: &[Cell]
 pub fn read<S: Alter>(conn: &mut Connection<S>, table: Table) -> Result<Vec<Row>, TableFault>
     ensures rows { HasCleanDisk (state S.Store conn.new)
         → IfOk result (λ rows. Shows (table_at table) rows.items (state S.Store conn.old) (state S.Store conn.new)) }
-    ensures told { HasCleanDisk (state S.Store conn.new)
+    ensures fails { HasCleanDisk (state S.Store conn.new)
         → IfErr result (λ fault. FailsToRead (sql_of table).select fault (state S.Store conn.old) (state S.Store conn.new)) }
     ensures reads { IsReading Storage (IsUnread (table_at table)) result (state S.Store conn.old) (state S.Store conn.new) }
 {

@@ -3,47 +3,47 @@
 ghost use Rattle.std.specs.Prelude.{◌≡◌, length};
 ghost use Rattle.row_model.specs.Rows.{kinds_of};
 ghost use Rattle.tables.specs.Table.{shape_of, sql_of};
-ghost use Rattle.tables.specs.Inside.Table.{texts_by, told_by, removal};
+ghost use Rattle.tables.specs.Inside.Table.{texts_by, shape_by, removal};
 
 use row_model::{Group, Table};
 use sqlite_schema::schema::Kind;
 
 /// A column of a table, by its name and its kind: NOT NULL, with no default.
-pub(crate) struct ToldColumn(pub &'static str, pub Kind);
+pub(crate) struct DeclaredColumn(pub &'static str, pub Kind);
 
-const BYTES: ToldColumn = ToldColumn("bytes", Kind::Blob);
+const BYTES: DeclaredColumn = DeclaredColumn("bytes", Kind::Blob);
 
-const CODE: ToldColumn = ToldColumn("code", Kind::Text);
+const CODE: DeclaredColumn = DeclaredColumn("code", Kind::Text);
 
-const GENEROUS: ToldColumn = ToldColumn("generous", Kind::Integer);
+const GENEROUS: DeclaredColumn = DeclaredColumn("generous", Kind::Integer);
 
-const ID: ToldColumn = ToldColumn("id", Kind::Integer);
+const ID: DeclaredColumn = DeclaredColumn("id", Kind::Integer);
 
-const IMPORT: ToldColumn = ToldColumn("id", Kind::Text);
+const IMPORT: DeclaredColumn = DeclaredColumn("id", Kind::Text);
 
-const KIND: ToldColumn = ToldColumn("kind", Kind::Text);
+const KIND: DeclaredColumn = DeclaredColumn("kind", Kind::Text);
 
-const LABEL: ToldColumn = ToldColumn("label", Kind::Text);
+const LABEL: DeclaredColumn = DeclaredColumn("label", Kind::Text);
 
-const NUMBER: ToldColumn = ToldColumn("number", Kind::Integer);
+const NUMBER: DeclaredColumn = DeclaredColumn("number", Kind::Integer);
 
-const OPEN: ToldColumn = ToldColumn("open", Kind::Integer);
+const OPEN: DeclaredColumn = DeclaredColumn("open", Kind::Integer);
 
-const PLACE: ToldColumn = ToldColumn("place", Kind::Integer);
+const PLACE: DeclaredColumn = DeclaredColumn("place", Kind::Integer);
 
-const PROJECT: ToldColumn = ToldColumn("project", Kind::Text);
+const PROJECT: DeclaredColumn = DeclaredColumn("project", Kind::Text);
 
-const QUOTA: ToldColumn = ToldColumn("quota", Kind::Integer);
+const QUOTA: DeclaredColumn = DeclaredColumn("quota", Kind::Integer);
 
-const RANK: ToldColumn = ToldColumn("rank", Kind::Integer);
+const RANK: DeclaredColumn = DeclaredColumn("rank", Kind::Integer);
 
-const ROUND: ToldColumn = ToldColumn("round", Kind::Integer);
+const ROUND: DeclaredColumn = DeclaredColumn("round", Kind::Integer);
 
-const ROWS: ToldColumn = ToldColumn("rows", Kind::Integer);
+const ROWS: DeclaredColumn = DeclaredColumn("rows", Kind::Integer);
 
-const STUDENT: ToldColumn = ToldColumn("student", Kind::Text);
+const STUDENT: DeclaredColumn = DeclaredColumn("student", Kind::Text);
 
-const SUPERVISOR: ToldColumn = ToldColumn("supervisor", Kind::Text);
+const SUPERVISOR: DeclaredColumn = DeclaredColumn("supervisor", Kind::Text);
 
 /// The column of another table by which its rows are named.
 pub(crate) struct Parent {
@@ -99,19 +99,19 @@ const BY_PLACE: Keys = Keys {
 };
 
 /// The columns of a choice, and to which tables they refer.
-const CHOICE_COLUMNS: &[ToldColumn] = &[ROUND, STUDENT, PLACE, PROJECT];
+const CHOICE_COLUMNS: &[DeclaredColumn] = &[ROUND, STUDENT, PLACE, PROJECT];
 
 const CHOICE_LINKS: &[Link] = &[Link(1, ROUNDS), Link(2, STUDENTS), Link(4, PROJECTS)];
 
 /// Those of a placement.
-const PLACEMENT_COLUMNS: &[ToldColumn] = &[STUDENT, ROUND, PROJECT, RANK];
+const PLACEMENT_COLUMNS: &[DeclaredColumn] = &[STUDENT, ROUND, PROJECT, RANK];
 
 const PLACEMENT_LINKS: &[Link] = &[Link(1, STUDENTS), Link(2, ROUNDS), Link(3, PROJECTS)];
 
 /// A table's description: what it is, and what its statements say.
 pub(crate) struct Shape {
     pub name: &'static str,
-    pub columns: &'static [ToldColumn],
+    pub columns: &'static [DeclaredColumn],
     pub keys: Keys,
     pub links: &'static [Link],
     pub create: &'static str,
@@ -206,7 +206,7 @@ pub(crate) trait Shaped {
 impl Shaped for Table {
     /// Returns what the table is, and what its statements say.
     fn shape(self) -> &'static Shape
-        ensures shape { told_by result.now ≡ shape_of self }
+        ensures shape { shape_by result.now ≡ shape_of self }
         ensures texts { texts_by result.now ≡ sql_of self }
     {
         match self {

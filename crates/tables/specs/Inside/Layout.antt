@@ -32,7 +32,7 @@ same_key (Some a) None = false
 
 -- as a column of this name and kind is made, in a table that is STRICT or not: NOT NULL, with no default
 abbrev pub is_required : List ℕ × Kind → Column → Bool
-is_required told c = bytes_eq c.name told.0 && (kind_code c.kind == kind_code (kind_in told.1 c.is_strict)) && c.not_null && is_nothing c.default && is_binary c.collation
+is_required declared c = bytes_eq c.name declared.0 && (kind_code c.kind == kind_code (kind_in declared.1 c.is_strict)) && c.not_null && is_nothing c.default && is_binary c.collation
 
 -- the columns are those of a STRICT table
 abbrev pub are_strict : List Column → Bool
@@ -61,11 +61,11 @@ is_referring link r =
     && is_passive r.on_delete && is_passive r.on_update && not r.is_deferred
 
 -- there are as many as are declared, each as the one that is declared at its place
-abbrev pub are_told : {A B : Type 0} → (A → B → Bool) → List A → List B → Bool
-are_told is [] [] = true
-are_told is (a ∷ more) (b ∷ rest) = is a b && are_told is more rest
-are_told is [] (b ∷ rest) = false
-are_told is (a ∷ more) [] = false
+abbrev pub are_declared : {A B : Type 0} → (A → B → Bool) → List A → List B → Bool
+are_declared is [] [] = true
+are_declared is (a ∷ more) (b ∷ rest) = is a b && are_declared is more rest
+are_declared is [] (b ∷ rest) = false
+are_declared is (a ∷ more) [] = false
 
 -- this many orders, each ascending
 abbrev pub are_plain : ℕ → List Order → Bool
@@ -77,11 +77,11 @@ is_untimed t = (length t.computed == 0) && (length t.stamps.places == 0) && (len
 
 -- the keys of the table are those that are declared
 abbrev pub has_keys : TableShape → AnyTable → Bool
-has_keys shape t = same_key t.key shape.key && bytes_eq t.primary shape.primary && are_told (λ places list. bytes_eq list places) shape.uniques t.uniques && are_plain (length shape.uniques) t.orders
+has_keys shape t = same_key t.key shape.key && bytes_eq t.primary shape.primary && are_declared (λ places list. bytes_eq list places) shape.uniques t.uniques && are_plain (length shape.uniques) t.orders
 
 -- the table is as one of this shape is made
 abbrev pub has_shape : TableShape → AnyTable → Bool
-has_shape shape t = bytes_eq t.name shape.name && has_keys shape t && are_told is_required shape.columns t.columns && are_of_one t.columns && are_told is_referring shape.links t.references && is_untimed t
+has_shape shape t = bytes_eq t.name shape.name && has_keys shape t && are_declared is_required shape.columns t.columns && are_of_one t.columns && are_declared is_referring shape.links t.references && is_untimed t
 
 -- the schema's first table of this name is this one
 pub record IsTableNamed (schema : Schema) (name : List ℕ) (table : AnyTable) : Type 0 where

@@ -2,14 +2,14 @@
 use Rattle.tables.specs.Common.{ℕ, List, map, codes, Kind, Group, Entering, InPlace, New}
 use Rattle.std.specs.Borrow.{Bor}
 use Rattle.tables.specs.declared.table.Shape.{Shape as Given}
-use Rattle.tables.specs.declared.table.ToldColumn.{ToldColumn}
+use Rattle.tables.specs.declared.table.DeclaredColumn.{DeclaredColumn}
 use Rattle.tables.specs.declared.table.Link.{Link}
 use Rattle.row_model.specs.declared.row.Group.TheVariants as group
 use Rattle.tables.specs.Table.{TableShape, Sql, sql_of}
 
 -- what the program declares of a column
-abbrev pub column_by : ToldColumn → List ℕ × Kind
-column_by told = (told.0.now, told.1)
+abbrev pub column_by : DeclaredColumn → List ℕ × Kind
+column_by declared = (declared.0.now, declared.1)
 
 -- of a reference
 abbrev pub link_by : Link → ℕ × List ℕ × List ℕ
@@ -20,8 +20,8 @@ abbrev pub places_by : Bor (List ℕ) → List ℕ
 places_by places = places.now
 
 -- of a table
-abbrev pub told_by : Given → TableShape
-told_by given = record {
+abbrev pub shape_by : Given → TableShape
+shape_by given = record {
   name = given.name.now;
   columns = map column_by given.columns.now;
   key = given.keys.rowid;

@@ -1,5 +1,5 @@
 use Rattle.tables.proofs.Runs.{part_err, part_ok}
-use Rattle.tables.proofs.Told.{entered, entry_refused}
+use Rattle.tables.proofs.Declared.{entered, entry_refused}
 use Rattle.tables.proofs.statements.enter.Goals as goal
 
 pub returns-clause-step : goal.returns-clause-step

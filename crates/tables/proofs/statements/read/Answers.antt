@@ -1,5 +1,5 @@
 use Rattle.tables.proofs.Common.{survives_weaker, state, refl}
-use Rattle.tables.proofs.Told.{rows_are, commits_none, rests, unread_by}
+use Rattle.tables.proofs.Declared.{rows_are, commits_none, rests, unread_by}
 use Rattle.tables.proofs.statements.read.Goals as goal
 
 pub returns-clause-rows : goal.returns-clause-rows

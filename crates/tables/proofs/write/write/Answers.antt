@@ -9,9 +9,9 @@ returns-in-Err-clause-step g c = record {
   did = λ clean. tt;
   kept = search rules;
   starved = λ clean inside h.
-      let lack : fault_of c.in-Err.error ≡ Memory = let told = c.from.ensures in cc in
+      let lack : fault_of c.in-Err.error ≡ Memory = let known = c.from.ensures in cc in
       lacks _ _ _ _ (c.in-Err.error, rw (c.in-Err.is, c.values.ensures.values) at (c.execute.ensures.runs clean inside), sym lack);
   cause = λ inside clean h.
-      let other : fault_of c.in-Err.error ≡ Storage = let told = c.from.ensures in cc in
+      let other : fault_of c.in-Err.error ≡ Storage = let known = c.from.ensures in cc in
       stopped _ _ _ _ _ other (rw (c.in-Err.is, c.values.ensures.values) at (c.execute.ensures.runs clean inside));
 }

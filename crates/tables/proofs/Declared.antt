@@ -18,15 +18,15 @@ use Rattle.tables.proofs.Refused.{delete_made, delete_refused, insert_made, inse
 
 -- ---- a table is made
 
-module _ (table : Table) (told : Sql) (is : told ≡ sql_of table) where
-  pub created : (old new : State) (count : ℕ) → HasRun told.create [] count old new → HasStepped (λ old new. Creates (table_at table) (rules_of table) [] old new × IsTableMade (made_here table 0) old new) old new
+module _ (table : Table) (declared : Sql) (is : declared ≡ sql_of table) where
+  pub created : (old new : State) (count : ℕ) → HasRun declared.create [] count old new → HasStepped (λ old new. Creates (table_at table) (rules_of table) [] old new × IsTableMade (made_here table 0) old new) old new
   created old new count run =
       let sql = sql_of table in
       let it = create_is table (texts table) in
       stepped_by _ sql.create [] count old new (create_writes sql.create (shape_of table) (rules_of table) it)
       (λ ran. (create_makes sql.create (shape_of table) (rules_of table) it old new count ran, table_made table (texts table) old new count ran)) (subst (λ (sql : Sql). HasRun sql.create [] count old new) is run)
 
-  pub make_refused : (limit : Option ℕ) (db : Database) → IsHindered told.create [] limit db → IsUnmade (made_here table 0) db
+  pub make_refused : (limit : Option ℕ) (db : Database) → IsHindered declared.create [] limit db → IsUnmade (made_here table 0) db
   make_refused limit db h = unmade table (texts table) (are_makable table) limit db (subst (λ (sql : Sql). IsHindered sql.create [] limit db) is h)
 
 -- ---- a row comes into its table
@@ -73,10 +73,10 @@ module _ (group : Group) (key : Cells) (fits : are_of (shared_kinds group) key �
   pub leaving_refused : (limit : Option ℕ) (db : Database) → IsHindered text (values key) limit db → CanFind (table_at from.0) limit db → OfLeaving group (values key) (IsRefusedIn db) db
   leaving_refused limit db h = delete_refused (removal group) (shape_of from.0) (shared_kinds group) (goes_on from.1) it key fits limit db (subst (λ sql. IsHindered sql (values key) limit db) is h)
 
-module _ (table : Table) (told : Sql) (is : told ≡ sql_of table) (old new : State) where
+module _ (table : Table) (declared : Sql) (is : declared ≡ sql_of table) (old new : State) where
   -- what a reading shows of the table
   pub rows_are : (result : Result (Vec Row Global) TableFault) → IfOk result (λ rows. IsKeyed rows.items)
-      → IfOk result (λ rows. ShowsInOrder told.select rows.items old new)
+      → IfOk result (λ rows. ShowsInOrder declared.select rows.items old new)
       → IfOk result (λ rows. Shows (table_at table) rows.items old new)
   rows_are (Ok rows) keyed seen =
       let shown = subst (λ (sql : Sql). Shown sql.select [] old new seen.seen) is seen.shown in
@@ -84,13 +84,13 @@ module _ (table : Table) (told : Sql) (is : told ≡ sql_of table) (old new : St
   rows_are (Err fault) keyed seen = seen
 
   -- it commits nothing
-  pub commits_none : (params : Row) (db : Trees) → CommitsShowing told.select params old db → ⊥
+  pub commits_none : (params : Row) (db : Trees) → CommitsShowing declared.select params old db → ⊥
   commits_none params db h = select_commits (sql_of table).select (shape_of table) (select_is table (texts table)) old params db (subst (λ (sql : Sql). CommitsShowing sql.select params old db) is h)
 
   -- and changes nothing
-  pub rests : RanQuery told.select old new → Rests old new
+  pub rests : RanQuery declared.select old new → Rests old new
   rests ran = select_rests (sql_of table).select (shape_of table) (select_is table (texts table)) old new (subst (λ (sql : Sql). RanQuery sql.select old new) is ran)
 
   -- why it fails
-  pub unread_by : (fault : TableFault) → fault ≡ Storage → FailsToRead told.select fault old new → IsStopped (IsUnread (table_at table)) old new
+  pub unread_by : (fault : TableFault) → fault ≡ Storage → FailsToRead declared.select fault old new → IsStopped (IsUnread (table_at table)) old new
   unread_by fault storage h = unread_rows (sql_of table).select (shape_of table) (select_is table (texts table)) old new fault storage (subst (λ (sql : Sql). FailsToRead sql.select fault old new) is h)
