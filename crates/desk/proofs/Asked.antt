@@ -26,5 +26,5 @@ idle_saved o q a old new same refused unstored = subst (λ (s : Seen). IsSaved o
   acted_on = λ change acted. refused change;
   cause = λ quiet clean told. absurd (unstored told);
   available = λ unlimited ready clean told. absurd (unstored told);
-  ours = λ ready clean up. ready.0;
+  ours = λ ours clean up. ours;
 })

@@ -36,7 +36,8 @@ module _ (o : State) (changes : List Change) where
         | inl up ↦ absurd (takes changes (rows_in o) old.now (live up).0 ready (keeps (early clean) up) few fresh (subst (λ l. IsHinderedAmong changes l old.now) unlimited hindered))
       ]
 
-  pub ours_so : (old new : Seen) → Keeps old o → IsLive old → AreFew changes (rows_in o) → (HasCleanDisk new → HasCleanDisk old) → (HasCleanDisk new → IsTrue new.is_open → IsTrue old.is_open)
-      → (HasCleanDisk new → IsTrue new.is_open → StaysOurs changes old.now new.now) → AreReady old.now → HasCleanDisk new → IsTrue new.is_open → IsOurs new.now
-  unfolding StaysOurs
-  ours_so old new keeps live few early was_open stays ready clean up = let open_before = was_open clean up in stays clean up (rows_in o) (live open_before).0 ready (keeps (early clean) open_before) few
+-- tables of ours stay ours
+pub ours_so : (o : State) (old new : Seen) → Keeps old o → IsLive old → (HasCleanDisk new → HasCleanDisk old) → (HasCleanDisk new → IsTrue new.is_open → IsTrue old.is_open)
+    → (HasCleanDisk new → IsTrue new.is_open → StaysOurs old.now new.now) → IsOurs old.now → HasCleanDisk new → IsTrue new.is_open → IsOurs new.now
+unfolding StaysOurs
+ours_so o old new keeps live early was_open stays ours clean up = let open_before = was_open clean up in stays clean up (rows_in o) (live open_before).0 ours (keeps (early clean) open_before)

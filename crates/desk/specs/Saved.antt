@@ -32,5 +32,5 @@ pub record IsSaved (office : State) (request : Request) (answer : Result Reply R
   pub cause : (AreActedOn old.now.schema → ⊥) → IsCaused Storage (IsHinderedToAsk office request) answer old new
   -- over tables as they are made here, with rowids left, only a shut connection or a fault of the disk
   pub available : old.step_limit ≡ None → AreReady old.now → IsCaused Storage (λ _ _. ⊥) answer old new
-  -- and they stay as they are made here
-  pub ours : AreReady old.now → HasCleanDisk new → IsTrue new.is_open → IsOurs new.now
+  -- tables as they are made here stay so
+  pub ours : IsOurs old.now → HasCleanDisk new → IsTrue new.is_open → IsOurs new.now

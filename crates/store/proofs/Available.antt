@@ -11,7 +11,9 @@ use Rattle.sqlite_trees.specs.View.{is_int}
 use Rattle.sqlite_sql.specs.Ops.{fits_i64}
 use Rattle.sqlite_rules.proofs.KeyLemmas.{agree_back}
 use Rattle.sqlite_rules.proofs.ProbeLemmas.{has_mapped}
-use Rattle.store.proofs.Common.{drop-map, filter_same, ◌≡◌, ◌⊎◌, inl, inr, ℕ, ℤ, pos, zero, suc, ◌≤◌, ◌<◌, ◌^◌, ◌+◌, List, [], ◌∷◌, not, codes, drop, filter, length, map, slice_get, None, Some, Bool, true, refl, sym, ap, subst, ◌∙◌, arith, if◌then◌else◌, AllByRecursion, list_any, IsPermutation, and_from, false_from_ne_true, not-true, IsPermutation-sym, length_permutation, Values, value_cmp, AnyTable, has_rowid, rowid, without_rowid, Database, IsDatabase, Null, Int, Words, Blob, value_cmp_total, agree, equal, passes_checks, Has, all_has, has_got, has_filtered, has_kept, some_has, IsPermutation-filter, filter-map, Cell, Text, Number, Bytes, Table, Edition, Supervisor, Project, Student, Round, Import, RoundAim, Choice, Placement, Change, Add, Put, Remove, AllRows, Cells, IsRow, RowOf, begins, key_in, same_table, shared_by, AreFresh, IsFresh, after_change, table_of, flag, ImportKind, Supervisors, Projects, Students, OfLists, word_of, InPlace, New, CanFind, IsMade, IsRefusedIn, OfEntry, adding, changing, replacing, each_of, leaving, IsGiven, fits, free, inert_here, is_first_of, stays_entered, stays_left, Lists, cells, laid_out, made_here, shape_of, table_at, begins_with, rowid_is, IsHinderedAmong, applying, IsLeftAlone, Needs, TablesHold, ◌&&◌, false}
+use Rattle.store.proofs.Common.{drop-map, filter_same, ◌≡◌, ◌⊎◌, inl, inr, ℕ, ℤ, pos, zero, suc, ◌≤◌, ◌<◌, ◌^◌, ◌+◌, List, [], ◌∷◌, not, codes, drop, filter, length, map, slice_get, None, Some, Bool, true, refl, sym, ap, subst, ◌∙◌, arith, if◌then◌else◌, AllByRecursion, list_any, IsPermutation, and_from, false_from_ne_true, not-true, IsPermutation-sym, length_permutation, Values, value_cmp, AnyTable, has_rowid, rowid, without_rowid, Database, IsDatabase, Null, Int, Words, Blob, value_cmp_total, agree, equal, passes_checks, Has, all_has, has_got, has_filtered, has_kept, some_has, IsPermutation-filter, filter-map, Cell, Text, Number, Bytes, Table, Edition, Supervisor, Project, Student, Round, Import, RoundAim, Choice, Placement, Change, Add, Put, Remove, AllRows, Cells, IsRow, RowOf, begins, key_in, same_table, shared_by, AreFresh, IsFresh, after_change, table_of, flag, ImportKind, Supervisors, Projects, Students, OfLists, word_of, InPlace, New, CanFind, IsMade, IsRefusedIn, OfEntry, adding, changing, replacing, each_of, leaving, IsGiven, IsLow, IsNumber, are_of, kinds_of, second_so, fits, free, inert_here, is_first_of, stays_entered, stays_left, Lists, cells, laid_out, made_here, shape_of, table_at, begins_with, rowid_is, IsHinderedAmong, applying, IsLeftAlone, Needs, TablesHold, ◌&&◌, false}
+use Rattle.row_model.specs.declared.cell.Kind.{Kind}
+use Rattle.row_model.specs.declared.cell.Kind.TheVariants.{Number as OfNumber}
 use Rattle.row_model.specs.declared.row.Group.{Group}
 use Rattle.row_model.specs.declared.row.Group.TheVariants.{List as OfList, Placed}
 use Rattle.change_laws.specs.Allowed.{AreAllowed, IsAllowedChange, IsKnown, IsPut, IsShort, IsWithin}
@@ -397,16 +399,31 @@ module _ (db : Database) (sound : IsDatabase db) (ours : IsOurs db) (room : HasR
 -- ---- changes one after another
 
 -- the first cell of a row whose key is its rowid is a number
-given_of : (rows : AllRows) (table : Table) (row : Cells) → IsWithin rows table row → IsGiven (shape_of table).key (values row)
-given_of rows Supervisor row within = tt
-given_of rows Project row within = tt
-given_of rows Student row within = tt
-given_of rows Import row within = tt
-given_of rows Choice row within = tt
-given_of rows Placement row within = tt
-given_of rows Round row (number, is_open, is, low) = (number, ap (λ row. column (values row) 0) is, low)
-given_of rows RoundAim row (number, generous, is, low, there) = (number, ap (λ row. column (values row) 0) is, low)
-given_of rows _ row within = absurd within
+number_first : (kinds : List Kind) (row : Cells) → are_of (OfNumber ∷ kinds) row ≡ true → IsNumber (column (values row) 0)
+number_first kinds [] are = absurd (cc)
+number_first kinds (Text text ∷ row) are = absurd (cc)
+number_first kinds (Number n ∷ row) are = (n, refl)
+number_first kinds (Bytes bytes ∷ row) are = absurd (cc)
+
+-- a row has a number where its rowid is the key
+given_of : (table : Table) (row : Cells) → are_of (kinds_of table) row ≡ true → IsGiven (shape_of table).key (values row)
+given_of Edition row are = number_first (OfNumber ∷ []) row are
+given_of Round row are = number_first (OfNumber ∷ []) row are
+given_of RoundAim row are = number_first (OfNumber ∷ []) row are
+given_of _ row are = tt
+
+low_number : (row : Cells) (number : ℕ) (more : Cells) → row ≡ Number number ∷ more → number < 2 ^ 32 → (n : ℕ) → column (values row) 0 ≡ Int (pos n) → n < 2 ^ 32
+low_number row number more is low n same =
+    let e : Int (pos number) ≡ Int (pos n) = sym (ap (λ row. column (values row) 0) is) ∙ same in
+    let k : number ≡ n = cc in
+    omega (arith, k, low)
+
+-- one of 32 bits, where the table takes it
+low_of : (rows : AllRows) (table : Table) (row : Cells) → IsWithin rows table row → IsLow (shape_of table).key (values row)
+low_of rows Edition row within = absurd within
+low_of rows Round row (number, is_open, is, low) = low_number row number _ is low
+low_of rows RoundAim row (number, generous, is, low, there) = low_number row number _ is low
+low_of rows _ row within = tt
 
 pub room_for : (a b : ℕ) (db : Database) → a ≤ b → HasRoom b db → HasRoom a db
 room_for a b db less room table place listed = less_each (db.trees place.tree) (room table place listed)
@@ -415,14 +432,14 @@ room_for a b db less room table place listed = less_each (db.trees place.tree) (
     less_each [] all = tt
     less_each (r ∷ here) all = ((λ n is. let low = all.0 n is in omega (arith, low, less)), less_each here all.1)
 
--- what a change leaves
-record StaysOurs (c : Change) (rows : AllRows) (count : ℕ) (now : Database) : Type 0 where
+-- what a change leaves; room for as many rows but one, where it is one that the tables take
+record LeavesOurs (c : Change) (rows : AllRows) (db now : Database) : Type 0 where
   pub sound : IsDatabase now
   pub ours : IsOurs now
-  pub room : HasRoom count now
+  pub room : IsAllowedChange rows c → (count : ℕ) → count ≤ 2 ^ 62 → HasRoom (suc count) db → HasRoom count now
   pub holds : TablesHold now (after_change c rows)
 
-module _ (db : Database) (sound : IsDatabase db) (ours : IsOurs db) (rows : AllRows) (t : TablesHold db rows) (count : ℕ) (few : count ≤ 2 ^ 62) (room : HasRoom (suc count) db) (now : Database) where
+module _ (db : Database) (sound : IsDatabase db) (ours : IsOurs db) (rows : AllRows) (t : TablesHold db rows) (now : Database) where
   alone : (table : Table) → IsLeftAlone table db.schema
   alone table place listed = inert_here db ours table place listed
 
@@ -431,12 +448,14 @@ module _ (db : Database) (sound : IsDatabase db) (ours : IsOurs db) (rows : AllR
   needs (Put r) = λ among. alone r.table
   needs (Remove p) = λ among. alone (table_of p)
 
-  entered : (way : Entering) (r : RowOf) → IsWithin rows r.table r.cells → IsRow r → OfEntry way (table_at r.table) (values (key_in r.table r.cells)) (values r.cells) (IsMade db now) db → IsDatabase now × IsOurs now × HasRoom count now
-  entered way r within is made =
+  entered : (way : Entering) (r : RowOf) → IsRow r → OfEntry way (table_at r.table) (values (key_in r.table r.cells)) (values r.cells) (IsMade db now) db
+      → IsDatabase now × IsOurs now × (IsWithin rows r.table r.cells → (count : ℕ) → count ≤ 2 ^ 62 → HasRoom (suc count) db → HasRoom count now)
+  entered way r is made =
       let among = row_in_rolls r is in
       let stands = t.rolls r.table among in
-      let kept = stays_entered db ours r.table (t.places r.table) stands.listed now way (values (key_in r.table r.cells)) (values r.cells) (given_of rows r.table r.cells within) (map values (rows r.table)) stands made in
-      (sound_entry way made, kept.0, kept.1 count few room)
+      let given = given_of r.table r.cells (second_so (not (same_table r.table Edition)) (are_of (kinds_of r.table) r.cells) is) in
+      let kept = stays_entered db ours r.table (t.places r.table) stands.listed now way (values (key_in r.table r.cells)) (values r.cells) given (map values (rows r.table)) stands made in
+      (sound_entry way made, kept.0, λ within. kept.1 (low_of rows r.table r.cells within))
     where
       sound_entry : (way : Entering) → OfEntry way (table_at r.table) (values (key_in r.table r.cells)) (values r.cells) (IsMade db now) db → IsDatabase now
       sound_entry New made = let among = row_in_rolls r is in (made (t.places r.table) (t.rolls r.table among).listed).0
@@ -447,21 +466,21 @@ module _ (db : Database) (sound : IsDatabase db) (ours : IsOurs db) (rows : AllR
           done.0
 
   -- a change that was made leaves ours
-  change_made : (c : Change) → IsAllowedChange rows c → (let it = applying c in it.does db now) → StaysOurs c rows count now
+  change_made : (c : Change) → (let it = applying c in it.does db now) → LeavesOurs c rows db now
   unfolding AppliesOne
-  change_made (Put r) allowed did =
-      let it = entered InPlace r allowed.0.within did.0 did.1 in
-      record { sound = it.0; ours = it.1; room = it.2; holds = (applies_one (Put r) db now did (needs (Put r)) rows t).0 }
-  change_made (Add r) allowed did =
-      let it = entered New r allowed.within did.0 did.1 in
-      record { sound = it.0; ours = it.1; room = it.2; holds = (applies_one (Add r) db now did (needs (Add r)) rows t).0 }
-  change_made (Remove p) allowed did =
+  change_made (Put r) did =
+      let it = entered InPlace r did.0 did.1 in
+      record { sound = it.0; ours = it.1; room = λ allowed. it.2 allowed.0.within; holds = (applies_one (Put r) db now did (needs (Put r)) rows t).0 }
+  change_made (Add r) did =
+      let it = entered New r did.0 did.1 in
+      record { sound = it.0; ours = it.1; room = λ allowed. it.2 allowed.within; holds = (applies_one (Add r) db now did (needs (Add r)) rows t).0 }
+  change_made (Remove p) did =
       let table = table_of p in
       let stands = t.rolls table (part_in_rolls p did.0) in
       let kept = stays_left db now ours p.group (values p.cells) (t.places table) (map values (rows table)) stands did.1 in
       let it = did.1 (t.places table) (map values (rows table)) (alone table (t.places table) stands.listed) stands in
       let done : IsMade db now (changing (table_at table (t.places table)) it.0 []) = it.2 in
-      record { sound = done.0; ours = kept.0; room = room_for count (suc count) now (omega arith) (kept.1 (suc count) room); holds = (applies_one (Remove p) db now did (needs (Remove p)) rows t).0 }
+      record { sound = done.0; ours = kept.0; room = λ allowed count few room. room_for count (suc count) now (omega arith) (kept.1 (suc count) room); holds = (applies_one (Remove p) db now did (needs (Remove p)) rows t).0 }
 
 -- so no change of several is refused
 pub run_taken : (changes : List Change) (rows : AllRows) (db : Database) → IsDatabase db → IsOurs db → length changes ≤ 2 ^ 20 → HasRoom (length changes) db → TablesHold db rows → AreAllowed changes rows → AreFresh changes rows
@@ -470,13 +489,12 @@ run_taken [] rows db sound ours few room t allowed fresh hindered = hindered
 run_taken (c ∷ cs) rows db sound ours few room t allowed fresh (inl hindered) =
     change_taken db sound ours (room_for 1 (suc (length cs)) db (omega arith) room) rows t c allowed.0 fresh.0 hindered
 run_taken (c ∷ cs) rows db sound ours few room t allowed fresh (inr (mid, did, hindered)) =
-    let left = change_made db sound ours rows t (length cs) (omega (arith, few)) room mid c allowed.0 did in
-    run_taken cs (after_change c rows) mid left.sound left.ours (omega (arith, few)) left.room left.holds allowed.1 fresh.1 hindered
+    let left = change_made db sound ours rows t mid c did in
+    run_taken cs (after_change c rows) mid left.sound left.ours (omega (arith, few)) (left.room allowed.0 (length cs) (omega (arith, few)) room) left.holds allowed.1 fresh.1 hindered
 
 -- and all of them leave ours
-pub run_ours : (changes : List Change) (rows : AllRows) (db now : Database) → IsDatabase db → IsOurs db → length changes ≤ 2 ^ 20 → HasRoom (length changes) db → TablesHold db rows → AreAllowed changes rows
-    → (let all = each_of applying changes in all.does db now) → IsOurs now
-run_ours [] rows db now sound ours few room t allowed same = subst IsOurs (sym same) ours
-run_ours (c ∷ cs) rows db now sound ours few room t allowed (mid, did, more) =
-    let left = change_made db sound ours rows t (length cs) (omega (arith, few)) room mid c allowed.0 did in
-    run_ours cs (after_change c rows) mid now left.sound left.ours (omega (arith, few)) left.room left.holds allowed.1 more
+pub run_ours : (changes : List Change) (rows : AllRows) (db now : Database) → IsDatabase db → IsOurs db → TablesHold db rows → (let all = each_of applying changes in all.does db now) → IsOurs now
+run_ours [] rows db now sound ours t same = subst IsOurs (sym same) ours
+run_ours (c ∷ cs) rows db now sound ours t (mid, did, more) =
+    let left = change_made db sound ours rows t mid c did in
+    run_ours cs (after_change c rows) mid now left.sound left.ours left.holds more

@@ -1,8 +1,8 @@
 -- Changes one after another.
-use Rattle.store.proofs.Common.{Database, Change, Add, Put, Remove, after_changes, table_of, after_both, Trees, HasSaved, MayRecoverTo, TablesHold, Schema, Has, Lists, table_at, AllNeed, AreInert, IsSaving, Needs, Spares, ◌≡◌, List, [], ◌∷◌, ◌++◌, length, refl, sym, ap, subst, ◌∙◌, Result, Ok, Err, OnOk, IsTrue, ◌^◌, Seen as State, each_of, did_all, applying}
+use Rattle.store.proofs.Common.{Database, Change, Add, Put, Remove, after_changes, table_of, after_both, Trees, HasSaved, MayRecoverTo, TablesHold, Schema, Has, Lists, table_at, AllNeed, AreInert, IsSaving, Needs, Spares, ◌≡◌, List, [], ◌∷◌, ◌++◌, refl, sym, ap, subst, ◌∙◌, Result, Ok, Err, OnOk, IsTrue, Seen as State, each_of, did_all, applying}
 use Rattle.store.specs.Saving.{Applies, LeavesOthers, Saves}
 use Rattle.store.specs.Available.{StaysOurs}
-use Rattle.store.proofs.Available.{room_for, run_ours}
+use Rattle.store.proofs.Available.{run_ours}
 use Rattle.store.specs.Inside.Saving.{AppliesOne}
 use Rattle.store.proofs.Held.{applies_one}
 
@@ -68,7 +68,7 @@ unfolding StaysOurs
 saving_call changes a b (Ok u) inert settled h = record {
   saved = record { shown = h.shown; step = saves changes a.now b.now inert (applied changes a.now b.now h.step) };
   others = leaves_others changes a.now b.now inert (applied changes a.now b.now h.step);
-  ours = λ rows sound ready t few. run_ours changes rows a.now b.now sound ready.0 few.1 (room_for (length changes) (2 ^ 20) a.now few.1 ready.1) t few.0 h.step;
+  ours = λ rows sound ours t. run_ours changes rows a.now b.now sound ours t h.step;
   alone = λ trees left. settled trees h.shown.is_open left ∙ ap (λ (db : Database). db.trees) h.shown.committed_is;
 }
 saving_call changes a b (Err e) inert settled h = h

@@ -43,7 +43,7 @@ pub use Rattle.store.specs.declared.fault.StoreFault.TheVariants.{Damaged, Stora
 pub use Rattle.tables.proofs.Causes.{stopped_after, stopped_as, stopped_before}
 pub use Rattle.tables.proofs.KeyTests.{equal_int, rowid_is}
 pub use Rattle.tables.proofs.Made.{enters, leaves}
-pub use Rattle.tables.proofs.Ours.{IsGiven, fits, free, inert_here, is_first_of, stays_entered, stays_left}
+pub use Rattle.tables.proofs.Ours.{IsGiven, IsLow, IsNumber, fits, free, inert_here, is_first_of, stays_entered, stays_left}
 pub use Rattle.tables.proofs.Outcomes.{did_all, known_so, one_and_rest, runs_more, runs_runs, runs_steps, runs_stopped, steps_runs}
 pub use Rattle.tables.proofs.Runs.{decide_table, listed_at_one, listed_once, low_tree, part_err, part_none, rests_then, stands_apart, stands_beside, stands_kept, stays_none, survives_both, survives_none}
 pub use Rattle.tables.specs.Causes.{CanFind, IsCaused, IsMade, IsRefusedIn, IsStopped, IsUnread, OfEntry, adding, changing, replacing}

@@ -1,5 +1,5 @@
 -- Tables of an earlier edition are migrated: the number is another, tables come next to those that stand, and rows are added.
-use Rattle.store.proofs.Common.{◌&&◌, Int, Database, Values, Schema, AnyTable, Has, all_has, has_either, has_got, Change, AllRows, AnEdition, First, Second, Third, Table, Edition, Place, Lists, table_at, IsActedOn, Stands, with_row, listed_at_one, listed_once, stands_kept, stands_apart, beyond, latest, number_of, migrated, rolls_of, AskMigrated, IsRollTable, rolls, values, AreActedOnAmong, AreLeftAmong, IsLeftAlone, Spares, MakesTables, TablesHold, HoldIn, after_changes, TablesOf, numbered, ◌≡◌, ◌≢◌, ◌↔◌, ◌⊎◌, inl, inr, ℕ, pos, Bool, true, cond, List, [], ◌∷◌, ◌++◌, map, refl, sym, ap, subst, ◌∙◌, true≢false, InPlace, enters, latest_number, migrating, false}
+use Rattle.store.proofs.Common.{◌&&◌, Int, Database, Values, Schema, AnyTable, Has, all_has, has_either, has_got, Change, AllRows, AnEdition, First, Second, Third, Table, Edition, Place, Lists, table_at, IsActedOn, Stands, with_row, listed_at_one, listed_once, stands_kept, stands_apart, beyond, latest, number_of, migrated, rolls_of, AskMigrated, IsRollTable, rolls, values, AreActedOnAmong, AreLeftAmong, IsLeftAlone, Spares, MakesTables, TablesHold, HoldIn, after_changes, TablesOf, numbered, ◌≡◌, ◌≢◌, ◌↔◌, ◌⊎◌, inl, inr, ℕ, pos, Bool, true, cond, List, [], ◌∷◌, ◌++◌, map, refl, sym, ap, subst, ◌∙◌, true≢false, InPlace, enters, latest_number, migrating, false, IsMade, changing, replacing, key_in, stays_entered, list_any}
 use Rattle.tables.proofs.Quiet.{inert_so}
 use Rattle.tables.specs.Writes.{Puts}
 use Rattle.store.specs.Rows.{IsAmong}
@@ -7,7 +7,9 @@ use Rattle.store.specs.Saving.{Applies}
 use Rattle.store.specs.Tables.{AreRuledAmong, LeavesTables}
 use Rattle.store.proofs.Standing.{stand_as}
 use Rattle.store.proofs.ChangesInOrder.{applied}
-use Rattle.store.proofs.NewTables.{made_all}
+use Rattle.store.specs.Available.{KeepsOurs}
+use Rattle.store.proofs.Available.{run_ours}
+use Rattle.store.proofs.NewTables.{founded_all, made_all}
 use Rattle.store.proofs.Among.{among_or_not, fresh_beyond, has_left, is_among, old_among, stands_among}
 use Rattle.store.proofs.Begins.{int_self}
 
@@ -155,9 +157,9 @@ others_with_edition tables number other rows a b c alone t puts later any listed
     )
 
 -- where no foreign key acts on the tables in which rows are replaced or taken out, tables of an edition get the number, those that they
--- lack, and the rows after the changes; each other table stays
+-- lack, and the rows after the changes; each other table stays, and tables as they are made here are so still
 pub rises_by : (e : AnEdition) (changes : List Change) (a d : Database) → (AreActedOnAmong migrated a.schema → ⊥) → (let it = migrating e changes in it.does a d)
-    → AskMigrated changes → (rows : AllRows) → HoldIn e a rows → TablesHold d (after_changes changes rows) × AreRuledAmong (beyond e) d.schema × LeavesTables a d
+    → AskMigrated changes → (rows : AllRows) → HoldIn e a rows → TablesHold d (after_changes changes rows) × AreRuledAmong (beyond e) d.schema × LeavesTables a d × KeepsOurs a d
 unfolding Applies
 rises_by e changes a d none (b, numbered_so, (c, tables, changed)) asks rows t =
     let puts : Puts (table_at Edition) (Int (pos 1) ∷ []) (values latest_number) a b = enters Edition latest_number refl InPlace a b numbered_so in
@@ -170,6 +172,13 @@ rises_by e changes a d none (b, numbered_so, (c, tables, changed)) asks rows t =
       done.0,
       subst (AreRuledAmong (beyond e)) (sym done.1.schema) (made_ruled (beyond e) b c made),
       others_with_edition (rolls_of e) (number_of e) (number_of latest) rows a b d alone t puts (others_with_tables e (number_of latest) rows b c d here.0 made done.1),
+      λ sound ours uncounted.
+          let place = t.edition in
+          let entered = stays_entered a ours Edition place t.editions.listed b InPlace (values (key_in Edition latest_number)) (values latest_number) (1, refl) (numbered (number_of e)) t.editions numbered_so in
+          let it = numbered_so place (numbered (number_of e)) (alone place t.editions.listed) t.editions in
+          let is : IsMade a b (changing (table_at Edition place) it.0 (map (replacing (table_at Edition place) (values latest_number)) it.0)) = it.2 in
+          let founded = founded_all (beyond e) b c tables (record { sound = is.0; ours = entered.0; uncounted = subst (λ (s : Schema). list_any (λ (t : AnyTable). t.is_counted) s.tables ≡ false) (sym here.1) uncounted }) in
+          run_ours changes rows c d founded.sound founded.ours all changed,
     )
 
 -- tables that pass the test are not acted on

@@ -1,10 +1,10 @@
 -- The tables that were made stand for the empty office.
-use Rattle.store.proofs.Common.{Database, Schema, AnyTable, Seen, Trees, Value, Has, all_has, has_either, has_got, rows_in, State, empty, Table, Edition, Supervisor, Place, Lists, rules_of, table_at, Stands, Creates, Adds, MayRecoverTo, listed_once, stands_apart, stands_beside, decide_table, latest, number_of, all_tables, rolls, values, AreRuled, Brings, MakesTables, StandsFor, HasNone, Opens, numbered, ◌≡◌, ◌≢◌, ◌⊎◌, ◌++◌, List, [], ◌∷◌, inl, inr, map, refl, sym, ap, subst, ◌∙◌, arith, New, each_of, making, key_in, enters, stays_entered, did_all, creating, latest_number}
+use Rattle.store.proofs.Common.{Database, Schema, AnyTable, Seen, Trees, Value, Has, all_has, has_either, has_got, rows_in, State, empty, Table, Edition, Supervisor, Place, Lists, rules_of, table_at, Stands, Creates, Adds, MayRecoverTo, listed_once, stands_apart, stands_beside, decide_table, latest, number_of, all_tables, rolls, values, AreRuled, Brings, MakesTables, StandsFor, HasNone, Opens, numbered, ◌≡◌, ◌≢◌, ◌⊎◌, ◌++◌, List, [], ◌∷◌, inl, inr, map, refl, sym, ap, subst, ◌∙◌, New, each_of, making, key_in, enters, stays_entered, did_all, creating, latest_number}
 use Rattle.store.specs.Tables.{AreRuledAmong, LeavesTables}
 use Rattle.store.specs.Inside.Saving.{Empties}
 use Rattle.store.proofs.Among.{apart_edition, stands_among}
-use Rattle.tables.proofs.Founding.{IsFounding, founded, founding}
-use Rattle.store.specs.Available.{FoundsOurs}
+use Rattle.tables.proofs.Founding.{IsFounding, founded}
+use Rattle.store.specs.Available.{KeepsOurs}
 
 -- the empty office has no rows
 no_rows : (table : Table) → rows_in empty table ≡ []
@@ -115,15 +115,19 @@ creates a c (b, made, numbered_so) =
     let q : Adds (table_at Edition) (values latest_number) b c = enters Edition latest_number refl New b c numbered_so in
     (empty_stands (values latest_number) refl a b c p q, ruled_so (values latest_number) a b c p q, others_stay (values latest_number) a b c p q)
 
--- in a database without tables they are ours
-pub founds_ours : (old new : Database) → creating.does old new → FoundsOurs old new
-founds_ours a c (b, made, numbered_so) sound absent none =
-    let it = did_all making (λ done a b. IsFounding a → IsFounding b) (λ done q a b c p one f. founded b c (p f) q one.1) all_tables a b (λ f. f) made (founding a sound none) in
+-- tables that are made leave a database ours,
+pub founded_all : (tables : List Table) (old new : Database) → (let all = each_of making tables in all.does old new) → IsFounding old → IsFounding new
+founded_all tables old new = did_all making (λ done a b. IsFounding a → IsFounding b) (λ done q a b c p one f. founded b c (p f) q one.1) tables old new (λ f. f)
+
+-- and so does their edition
+pub creates_ours : (old new : Database) → creating.does old new → KeepsOurs old new
+creates_ours a c (b, made, numbered_so) sound ours uncounted =
+    let it = founded_all all_tables a b made (record { sound = sound; ours = ours; uncounted = uncounted }) in
     let m = made_all all_tables a b made in
     let first : Has all_tables Edition = inl refl in
     let stands = m.stand Edition first in
     let key = values (key_in Edition latest_number) in
-    (stays_entered b it.ours Edition (m.places Edition) stands.listed c New key (values latest_number) (1, refl, omega arith) [] stands numbered_so).0
+    (stays_entered b it.ours Edition (m.places Edition) stands.listed c New key (values latest_number) (1, refl) [] stands numbered_so).0
 
 -- the tables were made where there were none
 pub opens_new : (old new : Database) (office : State) → HasNone old.schema → office ≡ empty → creating.does old new → Opens old new office

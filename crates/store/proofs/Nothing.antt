@@ -10,13 +10,15 @@ use Rattle.std.proofs.lemmas.Bool.Decides.{Decides-ltb}
 use Rattle.sqlite_sql.specs.Ops.{binary}
 use Rattle.tables.specs.Causes.{IsUnmade}
 use Rattle.sqlite_catalog.specs.Change.{automatics, created, is_used, next_tree}
-use Rattle.tables.proofs.Founding.{IsFounding, founded, founding}
+use Rattle.tables.proofs.Founding.{founding}
+use Rattle.tables.proofs.Rowids.{permuted_has}
 use Rattle.tables.proofs.Taken.{one_more, stored}
 use Rattle.store.specs.Laws.{nothing_made}
 use Rattle.store.proofs.Among.{stands_among}
 use Rattle.store.proofs.Available.{parent_roll}
-use Rattle.store.proofs.NewTables.{made_all}
-use Rattle.store.proofs.Common.{Database, IsDatabase, Schema, AnyTable, Has, all_has, has_got, some_has, Table, Edition, Lists, table_at, made_here, IsRefusedIn, passes_checks, adding, latest_number, all_tables, rolls, values, IsHinderedOpening, creating, each_of, making, did_all, ◌≡◌, ◌&&◌, ◌+◌, ◌<◌, ◌^◌, List, [], ◌∷◌, Bool, true, false, Option, None, inl, inr, length, list_all, not, nat_lt, and_parts, not-true, true≢false, false_from_ne_true, Int, pos, rowid, ℕ, refl, sym, ap, subst, ◌∙◌, arith}
+use Rattle.store.proofs.ListedTables.{has_mapped}
+use Rattle.store.proofs.NewTables.{founded_all, made_all}
+use Rattle.store.proofs.Common.{Database, IsDatabase, Schema, AnyTable, Has, cells, has_got, some_has, Table, Edition, Lists, table_at, made_here, IsRefusedIn, passes_checks, adding, latest_number, all_tables, rolls, values, IsHinderedOpening, creating, each_of, making, ◌≡◌, ◌&&◌, ◌+◌, ◌<◌, List, [], ◌∷◌, Bool, true, false, Option, None, inl, inr, length, list_all, not, nat_lt, and_parts, not-true, true≢false, false_from_ne_true, Int, pos, rowid, ℕ, refl, sym, ap, subst, ◌∙◌, arith}
 
 abbrev indexes_of : Table → List Index
 indexes_of table = automatics (made_here table 0) 0 0 (made_here table 0).uniques
@@ -70,7 +72,7 @@ checked tree = refl
 makes_them : (db : Database) → IsDatabase db → db.schema ≡ nothing_made → creating.hinders None db → ⊥
 makes_them db sound is (inl hindered) = none_unmade all_tables nothing_made db None is all_clear hindered
 makes_them db sound is (inr (mid, made, hindered)) =
-    let it = did_all making (λ done a b. IsFounding a → IsFounding b) (λ done q a b c p one f. founded b c (p f) q one.1) all_tables db mid (λ f. f) made (founding db sound (ap (λ (s : Schema). s.tables) is)) in
+    let it = founded_all all_tables db mid made (founding db sound (ap (λ (s : Schema). s.tables) is)) in
     let m = made_all all_tables db mid made in
     let place = λ (table : Table). m.places table in
     let stands = λ (table : Table) (among : Has all_tables table). m.stand table among in
@@ -81,9 +83,7 @@ makes_them db sound is (inr (mid, made, hindered)) =
     let tree = λ (table : Table). (place table).tree in
     let empty : is_taken (mid.trees (tree Edition)) (stored Edition (pos 1) (values latest_number)) ≡ false = false_from_ne_true _ (λ taken.
     let r = some_has (λ r. is_eq (value_cmp (rowid r) (Int (pos 1)))) (mid.trees (tree Edition)) taken in
-    let n = all_has _ (mid.trees (tree Edition)) r.0 (it.ours.numbered Edition (place Edition) (there Edition first)) r.1 in
-    let low = all_has _ (mid.trees (tree Edition)) r.0 (it.room (2 ^ 63) Edition (place Edition) (there Edition first)) r.1 n.0 n.1 in
-    absurd (omega (arith, low))) in
+    absurd (permuted_has [] _ (stands Edition first).holds _ (has_mapped (cells (table_at Edition (place Edition))) (mid.trees (tree Edition)) r.0 r.1))) in
     one_more mid it.sound it.ours tree (λ table is. listed table (inr (stands_among rolls table (parent_roll table is)))) Edition (listed Edition first) (values latest_number) (pos 1)
     (record { typed = refl; present = refl; checked = checked (tree Edition); small = (tt, (tt, tt)); some = omega arith; few = omega arith; names = tt; fits = refl }) empty (λ at k is. absurd (cc))
     (subst (λ u. IsRefusedIn mid (adding u (values latest_number) mid.trees)) (here Edition first) (hindered refl (place Edition) (stands Edition first).listed))

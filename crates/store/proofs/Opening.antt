@@ -2,6 +2,7 @@
 use Rattle.store.proofs.Common.{IsTrue, Rests, AreActedOnAmong, migrated, migrating, Held, Seen, HasCleanDisk, IsUnchanged, Survives, Database, Trees, Schema, survives_then, Change, State, AnEdition, First, Second, Third, rows_in_edition, HasSaved, IsKept, MayRecoverTo, IsStopped, Lists, stopped_after, IsHinderedOpening, IsHinderedToMigrate, IsEarlier, beyond, latest, number_of, rolls_of, IsEditionOf, IsDamaged, IsUnfitIn, Damaged, Storage, Brings, HasNone, HasNoneOf, HoldIn, Opens, Migrates, StandsIn, FindsOffice, ◌≡◌, ◌≢◌, ◌<◌, ◌≤◌, List, Result, Ok, Err, IfErr, ap, inl, inr, refl, sym, subst, ◌∙◌, arith}
 use Rattle.sqlite_trees.specs.declared.store.Store.{Ghosts}
 use Rattle.store.specs.declared.fault.StoreFault.{StoreFault}
+use Rattle.store.specs.Available.{KeepsOurs}
 use Rattle.store.specs.Opening.{IsLeftUnopened}
 use Rattle.store.specs.Tables.{LeavesTables}
 use Rattle.store.proofs.Migrated.{rises_by}
@@ -29,7 +30,7 @@ opens_found e office changes old new is found = inr (inl (found.same.0.now_is, s
 module _ (e : AnEdition) (office : State) (changes : List Change) (old mid : Seen) (earlier : IsEarlier e) (alone : HasNoneOf (beyond e) old.now.schema) (found : FindsOffice e office changes old mid)
     (quiet : AreActedOnAmong migrated mid.now.schema → ⊥) where
   -- tables of an earlier edition were read and migrated
-  turns : (db : Database) → (let it = migrating e changes in it.does mid.now db) → Migrates old.now db office × LeavesTables old.now db
+  turns : (db : Database) → (let it = migrating e changes in it.does mid.now db) → Migrates old.now db office × LeavesTables old.now db × KeepsOurs old.now db
   turns db did =
       let done = rises_by e changes mid.now db quiet did found.asks (rows_in_edition e office) (subst (λ it. HoldIn e it (rows_in_edition e office)) (sym found.same.0.now_is) found.holds) in (
         record {
@@ -41,10 +42,11 @@ module _ (e : AnEdition) (office : State) (changes : List Change) (old mid : See
           ruled = done.1;
         },
         subst (λ (was : Database). LeavesTables was db) found.same.0.now_is done.2,
+        subst (λ (was : Database). KeepsOurs was db) found.same.0.now_is done.3,
       )
 
-  pub opens_migrated : (new : Seen) → HasSaved (let it = migrating e changes in it.does) mid new → Opens old.now new.now office × LeavesTables old.now new.now
-  opens_migrated new saved = let done = turns new.now saved.step in (inr (inr done.0), done.1)
+  pub opens_migrated : (new : Seen) → HasSaved (let it = migrating e changes in it.does) mid new → Opens old.now new.now office × LeavesTables old.now new.now × KeepsOurs old.now new.now
+  opens_migrated new saved = let done = turns new.now saved.step in (inr (inr done.0), done.1, done.2)
 
   -- what a crash leaves of that
   migrated_left : (trees : Trees) → MayRecoverTo (let it = migrating e changes in it.does) mid trees → MayRecoverTo Brings old trees

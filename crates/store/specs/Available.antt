@@ -1,9 +1,10 @@
 -- Tables that take each valid change.
-use Rattle.std.specs.Prelude.{◌≡◌, ◌≤◌, ◌^◌, List, [], length}
-use Rattle.store.specs.Common.{Database, IsDatabase, Change, AllRows}
+use Rattle.std.specs.Prelude.{◌≡◌, ◌≤◌, ◌^◌, List, false, length}
+use Rattle.store.specs.Common.{AnyTable, Database, IsDatabase, Change, AllRows}
+use Rattle.std.specs.List.{list_any}
 use Rattle.change_laws.specs.Allowed.{AreAllowed}
 use Rattle.tables.specs.Ours.{HasRoom, IsOurs}
-use Rattle.store.specs.Tables.{HasNone, TablesHold}
+use Rattle.store.specs.Tables.{TablesHold}
 
 -- tables as they are made here, with rowids left for the rows of any request
 abbrev pub AreReady : Database → Type 0
@@ -13,10 +14,10 @@ AreReady db = IsOurs db × HasRoom (2 ^ 20) db
 abbrev pub AreFew : List Change → AllRows → Type 0
 AreFew changes rows = AreAllowed changes rows × (length changes ≤ 2 ^ 20)
 
--- once they are made the tables are still as they are made here
-unfoldable pub StaysOurs : List Change → Database → Database → Type 0
-StaysOurs changes old new = (rows : AllRows) → IsDatabase old → AreReady old → TablesHold old rows → AreFew changes rows → IsOurs new
+-- tables that hold rows, and are as they are made here, are so still
+unfoldable pub StaysOurs : Database → Database → Type 0
+StaysOurs old new = (rows : AllRows) → IsDatabase old → IsOurs old → TablesHold old rows → IsOurs new
 
--- tables that are made in a database without any are as they are made here
-abbrev pub FoundsOurs : Database → Database → Type 0
-FoundsOurs old new = IsDatabase old → HasNone old.schema → old.schema.tables ≡ [] → IsOurs new
+-- so is a database in which no table counts its rowids, where tables are made or migrated
+abbrev pub KeepsOurs : Database → Database → Type 0
+KeepsOurs old new = IsDatabase old → IsOurs old → list_any (λ (t : AnyTable). t.is_counted) old.schema.tables ≡ false → IsOurs new

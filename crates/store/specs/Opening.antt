@@ -4,14 +4,14 @@ use Rattle.store.specs.Common.{Held, state, HasCleanDisk, Survives, State, IsSto
 use Rattle.store.specs.Causes.{IsHinderedOpening}
 use Rattle.store.specs.Reading.{IsDamaged}
 use Rattle.store.specs.Tables.{Brings, HasNone, LeavesAlone, LeavesTables, Opens}
-use Rattle.store.specs.Available.{FoundsOurs}
+use Rattle.store.specs.Available.{KeepsOurs}
 
 module _ {S : Type 0} (ghosts : Ghosts S) where
   -- this office was opened, over a connection that has no transaction open
   pub record IsOpening (old new : Held S) (opened : State) : Type 0 where
     pub office : HasCleanDisk (state ghosts new) → Opens (state ghosts old).now (state ghosts new).now opened
-    -- tables that are made where there are none are as they are made here
-    pub ours : HasCleanDisk (state ghosts new) → FoundsOurs (state ghosts old).now (state ghosts new).now
+    -- tables as they are made here are so still, with those that are made, and those of an earlier edition once they are migrated
+    pub ours : HasCleanDisk (state ghosts new) → KeepsOurs (state ghosts old).now (state ghosts new).now
     -- each other table stays
     pub others : HasCleanDisk (state ghosts new) → LeavesTables (state ghosts old).now (state ghosts new).now
     pub ended : new.in_transaction ≡ false

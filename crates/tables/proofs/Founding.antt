@@ -1,16 +1,15 @@
--- A database in which tables of ours were made, and no other, is one of ours.
-use Rattle.tables.proofs.Common.{AllByRecursion, list_any, and_left, or_from, Int, Row, rowid, IsAscending, Has, has_either, all_has, table_below, created, next_tree, AnyTable, Schema, Database, IsDatabase, Ours, Place, made_here, table_at, IsTableMade, ◌≡◌, ◌⊎◌, inl, inr, ℕ, suc, ◌+◌, ◌<◌, ◌^◌, pos, List, [], ◌∷◌, ◌++◌, slice_get, Some, false, refl, sym, ap, subst, ◌∙◌, arith, list_any-append, IsTable, KeepsRows, automatics, IsIndexRow, automatic, Index, HasRoom, IsOurs, IsOwnIndex}
+-- A database of ours in which tables of ours are made is one of ours still.
+use Rattle.tables.proofs.Common.{AllByRecursion, list_any, and_left, or_from, Int, Row, rowid, IsAscending, Has, has_either, all_has, table_below, created, next_tree, AnyTable, Schema, Database, IsDatabase, Ours, Place, made_here, table_at, IsTableMade, ◌≡◌, ◌⊎◌, inl, inr, ℕ, suc, ◌+◌, ◌<◌, pos, List, [], ◌∷◌, ◌++◌, slice_get, Some, false, refl, sym, ap, subst, ◌∙◌, arith, list_any-append, IsTable, KeepsRows, automatics, IsIndexRow, automatic, Index, IsOurs, IsOwnIndex}
 use Rattle.sqlite_catalog.proofs.LayoutLemmas.{index_owner, zipped_left}
 use Rattle.sqlite_catalog.proofs.ListFacts.{ascending_push}
 use Rattle.tables.proofs.Ours.{along}
 use Rattle.tables.proofs.References.{same_named}
 
--- the tables of the database were made here, one after the other
+-- a database of ours that counts no rowids
 pub record IsFounding (db : Database) : Type 0 where
   pub sound : IsDatabase db
   pub ours : IsOurs db
   pub uncounted : list_any (λ (t : AnyTable). t.is_counted) db.schema.tables ≡ false
-  pub room : (count : ℕ) → HasRoom count db
 
 -- so it is where there is no table
 pub founding : (db : Database) → IsDatabase db → db.schema.tables ≡ [] → IsFounding db
@@ -27,7 +26,6 @@ founding db sound none =
         rise = λ t at l. absurd (absent _ l);
       };
       uncounted = ap (list_any (λ (t : AnyTable). t.is_counted)) none;
-      room = λ count t at l. absurd (absent _ l);
     }
 
 -- a table of ours that is the one made at this tree is made so
@@ -112,6 +110,4 @@ module _ (db now : Database) (it : IsFounding db) (table : Ours) (made : IsTable
         sound = so.0;
         ours = stays so.1 so.2 so.3;
         uncounted = ap (λ (s : Schema). list_any (λ (t : AnyTable). t.is_counted) s.tables) so.1 ∙ uncounted;
-        room = λ count. along (HasRoom count) after now so.1
-            (each so.1 so.2 so.3 (AllByRecursion (λ r. (n : ℕ) → rowid r ≡ Int (pos n) → n + count < 2 ^ 63)) tt (it.room count));
       }

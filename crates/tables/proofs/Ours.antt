@@ -7,7 +7,7 @@ use Rattle.tables.proofs.CreateTable.{all_passive}
 use Rattle.tables.proofs.Quiet.{inert_so}
 use Rattle.tables.proofs.Rowids.{permuted_has}
 
-abbrev IsNumber : Value → Type 0
+abbrev pub IsNumber : Value → Type 0
 IsNumber v = (n : ℕ) × (v ≡ Int (pos n))
 
 -- this many rowids more have 64 bits
@@ -57,10 +57,15 @@ HasIdOf found r = (old : Row) × Has found old × (rowid r ≡ rowid old)
 pub replaced : (table : AnyTable) (given : Row) (found : List Row) → AllByRecursion (HasIdOf found) (map (replacing table given) found)
 replaced table given found = all_map _ (replacing table given) found (all_from _ found (λ r h. (r, h, refl)))
 
--- what an INSERT is given: where the rowid is the key, that is a number of 32 bits
+-- what an INSERT is given: where the rowid is the key, that is a number,
 abbrev pub IsGiven : Option ℕ → Row → Type 0
 IsGiven None given = ⊤
-IsGiven (Some key) given = (n : ℕ) × (column given 0 ≡ Int (pos n)) × (n < 2 ^ 32)
+IsGiven (Some key) given = IsNumber (column given 0)
+
+-- of 32 bits
+abbrev pub IsLow : Option ℕ → Row → Type 0
+IsLow None given = ⊤
+IsLow (Some key) given = (n : ℕ) → column given 0 ≡ Int (pos n) → n < 2 ^ 32
 
 first_in : (tables : List AnyTable) (t : AnyTable) → IsAscending (λ a b. a.tree ≡ b.tree → ⊥) tables → Has tables t
     → find (λ (o : AnyTable). o.tree == t.tree) tables ≡ Some t
@@ -93,10 +98,10 @@ module _ (db : Database) (ours : IsOurs db) (table : Ours) (place : Place) (list
   -- the rowid of a new row is a number, and leaves room
   added : (key : Option ℕ) (given : Row) → IsGiven key given
       → let v = rowid (with_rowid Chosen rows (laid_out Null key given)) in
-      IsNumber v × ((count : ℕ) → count ≤ 2 ^ 62 → HasRoom (suc count) db → HasMore count v)
-  added None given is = (chosen.number, λ count few room. chosen.more count (omega arith) (room table place there))
-  added (Some key) [] (n, is, low) = absurd (cc)
-  added (Some key) (first ∷ given) (n, is, low) = rw is ((n, refl), λ count few room m same. let e : n ≡ m = cc in omega (arith, e, low, few))
+      IsNumber v × (IsLow key given → (count : ℕ) → count ≤ 2 ^ 62 → HasRoom (suc count) db → HasMore count v)
+  added None given is = (chosen.number, λ low count few room. chosen.more count (omega arith) (room table place there))
+  added (Some key) [] (n, is) = absurd (cc)
+  added (Some key) (first ∷ given) (n, is) = rw is ((n, refl), λ below count few room m same. let e : n ≡ m = cc in let low = below n refl in omega (arith, e, low, few))
 
   less_room : (count : ℕ) → HasRoom (suc count) db → HasRoom count db
   less_room count room t at l = all_weaker _ _ (λ r h n e. omega (arith, h n e)) (db.trees at.tree) (room t at l)
@@ -132,11 +137,11 @@ module _ (db : Database) (ours : IsOurs db) (table : Ours) (place : Place) (list
 
   -- the database stays ours where a row comes in,
   pub stays_added : (now : Database) (given : Row) → IsGiven (shape_of table).key given → IsMade db now (adding (table_at table place) given db.trees)
-      → IsOurs now × ((count : ℕ) → count ≤ 2 ^ 62 → HasRoom (suc count) db → HasRoom count now)
+      → IsOurs now × (IsLow (shape_of table).key given → (count : ℕ) → count ≤ 2 ^ 62 → HasRoom (suc count) db → HasRoom count now)
   stays_added now given is made =
       let it = added (shape_of table).key given is in (
         stays now [] _ made (it.0, tt),
-        λ count few room. has_room now [] _ made count (it.1 count few room, tt) (less_room count room),
+        λ low count few room. has_room now [] _ made count (it.1 low count few room, tt) (less_room count room),
       )
 
   -- and where rows are replaced under their rowids, or go
@@ -169,12 +174,12 @@ module _ (db : Database) (ours : IsOurs db) (table : Ours) (place : Place) (list
   -- a statement that brings a row in leaves it ours,
   pub stays_entered : (now : Database) (way : Entering) (key given : Row) → IsGiven (shape_of table).key given → (all : List Row)
       → Stands (table_at table) place all db → OfEntry way (table_at table) key given (IsMade db now) db
-      → IsOurs now × ((count : ℕ) → count ≤ 2 ^ 62 → HasRoom (suc count) db → HasRoom count now)
+      → IsOurs now × (IsLow (shape_of table).key given → (count : ℕ) → count ≤ 2 ^ 62 → HasRoom (suc count) db → HasRoom count now)
   stays_entered now New key given is all stands of = stays_added now given is (of place listed)
   stays_entered now InPlace key given is all stands of =
       let it = of place all inert_here stands in
       let so = stays_changed now (λ r. begins_with key (cells (table_at table place) r)) it.0 _ it.1 (replaced (table_at table place) given it.0) it.2 in
-      (so.0, λ count few room. so.1 count (less_room count room))
+      (so.0, λ low count few room. so.1 count (less_room count room))
 
 -- and so does one that takes the rows of a group out
 pub stays_left : (db now : Database) → IsOurs db → (group : Group) (key : Row) (place : Place) (all : List Row)

@@ -66,7 +66,7 @@ module _ {S : Type 0} (ghosts : Ghosts S) where
   pub record GetsAt (before : DeskState S) (asked : Request) (answer : Result Reply Refusal) (after : DeskState S) : Type 0 where
     pub gets : Gets (at_desk before) asked answer (at_desk after)
     pub available : (state ghosts before.store).step_limit ≡ None → AreReady (state ghosts before.store).now → IsCaused no.Storage (λ _ _. ⊥) answer (state ghosts before.store) (state ghosts after.store)
-    pub ours : AreReady (state ghosts before.store).now → HasCleanDisk (state ghosts after.store) → IsTrue (state ghosts after.store).is_open → IsOurs (state ghosts after.store).now
+    pub ours : IsOurs (state ghosts before.store).now → HasCleanDisk (state ghosts after.store) → IsTrue (state ghosts after.store).is_open → IsOurs (state ghosts after.store).now
 
   -- a message is answered so, and a disk that is clean after it was clean before it
   pub record AnswersFrom (before : DeskState S) (said : MessageText) (bytes : List ℕ) (after : DeskState S) : Type 0 where

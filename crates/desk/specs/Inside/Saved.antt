@@ -7,11 +7,12 @@ use Rattle.tables.specs.Steps.{MayRecoverTo}
 use Rattle.rolls.specs.declared.refusal.Refusal.{Refusal}
 use Rattle.rolls.specs.declared.refusal.Refusal.TheVariants.{Storage}
 use Rattle.rolls.specs.declared.request.Reply.{Reply}
+use Rattle.store.specs.Available.{StaysOurs}
 use Rattle.store.specs.Saving.{AreActedOn}
 use Rattle.store.specs.Tables.{LeavesAlone}
 
 -- The tables of the one state become those of the other, where that is what the change leaves of the first and hinders it thus.
-pub record HasSettled (Leaves Stays : Database → Database → Type 0) (Hinders : Option ℕ → Database → Type 0) (answer : Result Reply Refusal) (old new : Seen) : Type 0 where
+pub record HasSettled (Leaves : Database → Database → Type 0) (Hinders : Option ℕ → Database → Type 0) (answer : Result Reply Refusal) (old new : Seen) : Type 0 where
   -- a crash leaves what it could leave before, or what the change leaves
   pub crash : Survives old new (MayRecoverTo Leaves old)
   -- an answered change leaves its own tables alone, over a connection that is open
@@ -23,5 +24,5 @@ pub record HasSettled (Leaves Stays : Database → Database → Type 0) (Hinders
   pub acted_on : AreActedOn old.now.schema → IsErr answer
   -- why else the storage has failed
   pub cause : (AreActedOn old.now.schema → ⊥) → IsCaused Storage Hinders answer old new
-  -- and what stays of the tables
-  pub stays : HasCleanDisk new → IsTrue new.is_open → Stays old.now new.now
+  -- tables as they are made here stay so
+  pub stays : HasCleanDisk new → IsTrue new.is_open → StaysOurs old.now new.now

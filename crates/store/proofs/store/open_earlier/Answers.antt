@@ -78,7 +78,7 @@ returns-clause-opened g c =
     opens_migrated c.args.edition c.in_ok-migrated.migrated c.in_ok-migrated.changes.items _ _ c.requires.earlier c.requires.edition.alone (c.in_ok-migrated.ensures.ok early) quiet _ (rw c.deref.ensures.value at (c.in_ok-transact.ensures.saved clean)) in
     record {
       office = λ clean. (opens clean).0;
-      ours = λ clean sound absent none. absurd (c.requires.edition.some absent);
+      ours = λ clean. (opens clean).2;
       others = λ clean. (opens clean).1;
       ended = c.transact.ensures.safe.ended (c.office_in.ensures.reads.ended c.requires.idle);
       alone = λ clean trees h.

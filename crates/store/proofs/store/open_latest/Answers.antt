@@ -1,4 +1,5 @@
-use Rattle.store.proofs.Common.{stopped_as, survives_weaker, Storage, inl, inr, state, Damaged, latest, IsTrue, ◌≡◌, ◌∙◌, Err, refl, sym, rules}
+use Rattle.store.proofs.Common.{stopped_as, survives_weaker, Storage, inl, inr, state, Damaged, latest, IsTrue, ◌≡◌, ◌∙◌, Err, refl, sym, subst, rules}
+use Rattle.tables.specs.Ours.{IsOurs}
 use Rattle.store.proofs.Opening.{kept_whole, opens_found, others_kept, unfit_all, unopened_by}
 use Rattle.store.proofs.store.open_latest.Goals as goal
 
@@ -19,7 +20,7 @@ returns-in_err-read-clause-unopened g c = let whole = c.requires.whole in unopen
 pub returns-clause-opened : goal.returns-clause-opened
 returns-clause-opened g c = let whole = c.requires.whole in record {
   office = λ clean. opens_found latest c.in_ok-read.read _ _ _ refl (c.in_ok-read.ensures.ok clean);
-  ours = λ clean sound absent none. absurd (c.requires.edition.some absent);
+  ours = λ clean sound is uncounted. subst IsOurs (sym (c.in_ok-read.ensures.ok clean).same.0.now_is) is;
   others = λ clean. others_kept _ _ (c.in_ok-read.ensures.ok clean).same.0.now_is;
   ended = c.office_in.ensures.reads.ended c.requires.idle;
   alone = λ clean trees h.

@@ -49,8 +49,7 @@ returns-clause-saved g c =
       cause = λ quiet. hindered_by Storage c.exchange.result old next q done (state g.S.Store c.args.self.now.store) (state g.S.Store c.exchange.new.self.store) (done.reply, (none, made)) may transforms (saved.cause quiet);
       available = available_so old done.changes.items c.available_law.ensures c.exchange.result (state g.S.Store c.args.self.now.store) (state g.S.Store c.exchange.new.self.store) c.keeps.ensures.fit c.keeps.ensures.tables c.keeps.ensures.live
           (may_allowed old q done.changes.items c.keeps.ensures.fit none may) transforms.fresh (λ clean. omega (arith, saved.crash.clean, clean)) saved.cause;
-      ours = ours_so old done.changes.items (state g.S.Store c.args.self.now.store) (state g.S.Store c.exchange.new.self.store) c.keeps.ensures.tables c.keeps.ensures.live
-          (may_allowed old q done.changes.items c.keeps.ensures.fit none may) (λ clean. omega (arith, saved.crash.clean, clean)) saved.stays_shut saved.stays;
+      ours = ours_so old (state g.S.Store c.args.self.now.store) (state g.S.Store c.exchange.new.self.store) c.keeps.ensures.tables c.keeps.ensures.live (λ clean. omega (arith, saved.crash.clean, clean)) saved.stays_shut saved.stays;
     }
 
 pub returns-in-Err-clause-saved : goal.returns-in-Err-clause-saved
