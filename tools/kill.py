@@ -1,13 +1,13 @@
 #!/usr/bin/env python3
 """A served file that is killed in the middle of puts has every answered put when it is opened again, and one of an earlier edition that is
-killed while it is raised is of that edition or the latest, of the same office.
+killed while it is migrated is of that edition or the latest, of the same office.
 
 tools/kill.py SPADESK [TIMES [FILE]]
 
 Each time a program serves a new database, students are put over one connection after another, the program is killed by SIGKILL at
 some moment, and another program serves the file and is asked for each student whose put was answered. As often a line opens a file of
 the first edition, one of the second that has a generous round, and FILE, as tools/oldest_full_file.py makes it, and is killed at some
-moment; the rows of the file are those from before or those of the raised file, and another line prints what it prints undisturbed.
+moment; the rows of the file are those from before or those of the migrated file, and another line prints what it prints undisturbed.
 """
 import contextlib
 import os
@@ -54,7 +54,7 @@ def made(program, path, edition):
     return path
 
 
-def raised(program, draw, times, start):
+def migrated(program, draw, times, start):
     """Kills lines in the middle of an opening of copies of a file; how many they left as it was, and how many of the latest edition."""
     left = Counter()
     with tempfile.TemporaryDirectory() as folder:
@@ -70,7 +70,7 @@ def raised(program, draw, times, start):
             it.wait()
             found = rows(path)
             if found not in (first, latest) or told(program, REPORT, path) != wanted or rows(path) != latest:
-                sys.exit("a file that was killed while it was raised is of no edition of its office")
+                sys.exit("a file that was killed while it was migrated is of no edition of its office")
             left["first" if found == first else "latest"] += 1
     return left["first"], left["latest"]
 
@@ -86,8 +86,8 @@ def main(program, times="20", largest=None):
         if largest:
             starts[largest] = largest
         for name, start in starts.items():
-            before, latest = raised(program, draw, int(times), start)
-            print(f"{name}, killed while it is raised: {before} times as it was, {latest} of the latest edition", flush=True)
+            before, latest = migrated(program, draw, int(times), start)
+            print(f"{name}, killed while it is migrated: {before} times as it was, {latest} of the latest edition", flush=True)
 
 
 if __name__ == "__main__":

@@ -1,12 +1,12 @@
 #!/usr/bin/env python3
-"""Makes a file of the first edition at all limits, tells what raising it takes, and compares its reports from before and after.
+"""Makes a file of the first edition at all limits, tells what migrating it takes, and compares its reports from before and after.
 
 tools/oldest_full_file.py SPADESK FOLDER [OLDER]     needs valgrind
 
 FOLDER/largest.db has 100 supervisors, 400 projects, 500 students, who list eight projects in each of twelve closed rounds, 400 placements
-by the last of them, and 200 imports of 2,000 bytes. FOLDER/second.db is the same office in the second edition, and FOLDER/raised.db in the
-latest. Told are the instructions and the seconds, the median of five, of a report that raises a copy of the first, and of the same report
-over the raised file. A line that raises a copy of either older file must print the same reports as one over the raised file, and so
+by the last of them, and 200 imports of 2,000 bytes. FOLDER/second.db is the same office in the second edition, and FOLDER/migrated.db in the
+latest. Told are the instructions and the seconds, the median of five, of a report that migrates a copy of the first, and of the same report
+over the migrated file. A line that migrates a copy of either older file must print the same reports as one over the migrated file, and so
 must OLDER, an older program, over a copy of the first.
 """
 import os
@@ -64,27 +64,27 @@ def over_copy(start, what):
 
 def files(program, folder):
     """Makes the file in each edition."""
-    first, second, raised = (os.path.join(folder, name) for name in ("largest.db", "second.db", "raised.db"))
+    first, second, migrated = (os.path.join(folder, name) for name in ("largest.db", "second.db", "migrated.db"))
     copy(None, first)
     told(program, "open-round DB", first)
     alter(first, FIRST_EDITION + "DELETE FROM round;")
     with closing(sqlite3.connect(first)) as file:
         fill(file)
         file.commit()
-    told(program, REPORTS[0], copy(first, raised))
-    alter(copy(raised, second), SECOND_EDITION)
-    return first, second, raised
+    told(program, REPORTS[0], copy(first, migrated))
+    alter(copy(migrated, second), SECOND_EDITION)
+    return first, second, migrated
 
 
 def main(program, folder, older=None):
-    first, second, raised = files(program, folder)
+    first, second, migrated = files(program, folder)
     for words in REPORTS:
-        wanted = told(program, words, raised)
+        wanted = told(program, words, migrated)
         pairs = [(by, start) for by, start in ((program, first), (program, second), (older, first)) if by]
         if any(over_copy(start, lambda path, by=by: told(by, words, path)) != wanted for by, start in pairs):
-            sys.exit(f"{words}: other bytes by a line that raises the file, or by the older program")
+            sys.exit(f"{words}: other bytes by a line that migrates the file, or by the older program")
         print(f"{words[10:]:13} {len(wanted):6} bytes, the same {len(pairs) + 1} times", flush=True)
-    for what, start in (("raised and reported on", first), ("reported on", raised)):
+    for what, start in (("migrated and reported on", first), ("reported on", migrated)):
         count = over_copy(start, lambda path: counted(program, *REPORTS[0].replace("DB", path).split(), check=True)[0])
         seconds = (over_copy(start, lambda path: timeit(lambda: told(program, REPORTS[0], path), number=1)) for _ in range(5))
         print(f"{what:22} {count:>15,} instructions, {statistics.median(seconds):.2f} s", flush=True)

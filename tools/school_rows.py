@@ -12,7 +12,7 @@ In each of the first eleven rounds one project has a place. All list it twelfth,
 In the twelfth all other projects have one. Each of 389 students lists an own one, at each rank in turn, behind or among the eleven that are
 full, and 100 others list one of those twelfth.
 
-Then two files of earlier editions are raised: all students list eight projects in twelve closed rounds, and 400 are placed at the eighth.
+Then two files of earlier editions are migrated: all students list eight projects in twelve closed rounds, and 400 are placed at the eighth.
 """
 BITS = (1 << 64) - 1
 SUPERVISORS, PROJECTS, STUDENTS, ROUNDS, RANKS, IMPORTS, BYTES = 100, 400, 500, 12, 12, 200, 65_536
@@ -304,7 +304,7 @@ class Rows:
 
     def earlier(self):
         """Files of the earlier editions, at their limits."""
-        self.begin("Files of the earlier editions, made by SQL, are raised.")
+        self.begin("Files of the earlier editions, made by SQL, are migrated.")
         names = {kind: f"{PREFIX[kind]}@1 0 9999 {FIRST}@" for kind in PREFIX}
 
         def insert(table, rows, count):

@@ -5,9 +5,9 @@ tools/disk/sweep.py SPADESK [ROW..]     needs gcc and curl
 tools/disk/sweep.py SPADESK --of FILE FIRST LAST EACH [MODE..]
 
 The rows are LINES, by their numbers from 1; without a number all are swept. Some begin with a file of the first edition or the second,
-which the line raises. With --of a report over a copy of FILE is swept instead, at each EACH-th of its calls from FIRST to LAST, in these
+which the line migrates. With --of a report over a copy of FILE is swept instead, at each EACH-th of its calls from FIRST to LAST, in these
 MODES, or all, with steps of the sizes EACH times as large. Over the file that tools/oldest_full_file.py makes it has 4,200 calls, of which
-the last five of the 1,740 before what is printed commit what is raised; a run takes up to some seconds. Two lines are served, at one port,
+the last five of the 1,740 before what is printed commit what is migrated; a run takes up to some seconds. Two lines are served, at one port,
 so sweeps of LINES are not run side by side.
 
 Each call is failed alone and with all behind it, by EIO and by ENOSPC; the program is killed before it, and half-way through it where it is

@@ -20,7 +20,7 @@ unlisted old at none named =
 opened_empty : (old new : Database) (office : State) → old.schema ≡ record { tables = []; indexes = []; views = [] } → Opens old new office → office ≡ empty
 opened_empty old new office none (inl made) = made.1
 opened_empty old new office none (inr (inl found)) = absurd (unlisted old found.1.editions.listed.at none found.1.editions.listed.named)
-opened_empty old new office none (inr (inr raised)) = absurd (unlisted old raised.stood.holds.editions.listed.at none raised.stood.holds.editions.listed.named)
+opened_empty old new office none (inr (inr migrated)) = absurd (unlisted old migrated.stood.holds.editions.listed.at none migrated.stood.holds.editions.listed.named)
 
 -- a desk that was opened of it has the empty office, and no session
 pub opened_anew : {S : Type 0} (old new : Database) (desk : DeskState S) → old.schema ≡ record { tables = []; indexes = []; views = [] } → Opens old new desk.office → desk.session ≡ None

@@ -20,7 +20,7 @@ use Rattle.cli.specs.declared.tasks.Task.TheVariants as task
 of_opened : (old new : Database) (office : State) → Opens old new office → IsOfficeOf old office
 of_opened old new office (inl made) = inl (made.0, made.1)
 of_opened old new office (inr (inl found)) = inr (latest, in_latest found.1)
-of_opened old new office (inr (inr raised)) = inr (raised.edition, raised.stood)
+of_opened old new office (inr (inr migrated)) = inr (migrated.edition, migrated.stood)
 
 -- a disk that is clean after the task was clean when the office was opened
 pub found_for : (before opened after : Seen) (office : State) → WasClean opened after → (HasCleanDisk opened → HasCleanDisk before) → (HasCleanDisk opened → Opens before.now opened.now office) → IsFoundFor before after office

@@ -32,7 +32,7 @@ use Rattle.tables.specs.Causes.{IsStopped}
 use Rattle.tables.specs.Steps.{IsKept}
 use Rattle.store.specs.Causes.{IsHinderedOpening}
 use Rattle.store.specs.Reading.{IsDamaged}
-use Rattle.editions.specs.declared.Edition.{Edition}
+use Rattle.store.specs.declared.edition.Edition.{Edition}
 use Rattle.store.specs.Tables.{HasNone, Opens, StandsIn}
 use Rattle.desk.specs.Keeping.{Keeps}
 use Rattle.desk.specs.DeskState.{DeskState}

@@ -53,7 +53,7 @@ call_carried q office next done old new none made fit transforms keeps it =
 pub opened_stands : (old new : Database) (office : State) → Opens old new office → StandsFor new office
 opened_stands old new office (inl made) = subst (λ (o : State). StandsFor new o) (sym made.1) made.2
 opened_stands old new office (inr (inl found)) = subst (λ (db : Database). StandsFor db office) (sym found.0) found.1
-opened_stands old new office (inr (inr raised)) = raised.stands
+opened_stands old new office (inr (inr migrated)) = migrated.stands
 
 -- what is answered as a fault of the storage was one of the store
 pub was_storage : (fault : StoreFault) (refusal : Refusal) → (fault ≡ store.Memory → refusal ≡ no.Memory) → (fault ≡ store.Damaged → refusal ≡ no.Damaged) → refusal ≡ no.Storage → fault ≡ store.Storage

@@ -1,8 +1,10 @@
 -- The office of rows that were read in an edition, and the changes that migrate its tables.
-use Rattle.store.proofs.Common.{Schema, Seen, Change, Add, RowOf, of_table, IsFit, AreRowsOf, State, AnEdition, First, Second, Third, RowsMigrate, ChangesMigrate, aims_of, is_old, olds, renaming_changes, migrated_rows, rows_in_edition, renamed_row, removal_of, migrating_changes, number_of, migrated, rolls_of, AllNeed, AreLeftAmong, IsLeftAlone, AskMigrated, FindsOffice, HoldsRows, ◌≡◌, Bool, true, cond, List, [], ◌∷◌, ◌++◌, map, filter, inr, refl, false}
+use Rattle.store.proofs.Common.{Schema, Seen, Change, Add, RowOf, of_table, IsFit, AreRowsOf, State, AnEdition, First, Second, Third, aims_of, is_old, olds, renaming_changes, migrated_rows, rows_in_edition, renamed_row, removal_of, migrating_changes, number_of, migrated, rolls_of, AllNeed, AreLeftAmong, IsLeftAlone, AskMigrated, FindsOffice, HoldsRows, ◌≡◌, Bool, true, cond, List, [], ◌∷◌, ◌++◌, map, filter, inr, refl, false}
 use Rattle.store.specs.Rows.{IsAmong}
 use Rattle.store.proofs.Among.{tested_among}
 use Rattle.store.proofs.Standing.{hold_same}
+use Rattle.store.proofs.MigratingChanges.{changes_migrate}
+use Rattle.store.proofs.MigratingRows.{rows_migrate}
 
 -- ---- what the changes of a migration ask of the schema
 
@@ -37,9 +39,9 @@ migration_asks Second rows schema left = moves_ask schema left rows []
 migration_asks Third rows schema left = tt
 
 -- the office of the rows that were read, and what migrates them
-pub found_in : RowsMigrate → ChangesMigrate → (e : AnEdition) (rows : List RowOf) (office : State) (old new : Seen) → HoldsRows e rows old new → IsFit office → AreRowsOf (migrated_rows e rows) office
+pub found_in : (e : AnEdition) (rows : List RowOf) (office : State) (old new : Seen) → HoldsRows e rows old new → IsFit office → AreRowsOf (migrated_rows e rows) office
     → FindsOffice e office (migrating_changes e rows) old new
-found_in rows_migrate changes_migrate e rows office old new h fit of =
+found_in e rows office old new h fit of =
     let in_it = (rows_migrate e rows office h.none_later fit).1 of in
     record {
       same = h.same;

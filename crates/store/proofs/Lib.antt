@@ -1,6 +1,9 @@
 mod Common
 mod Available
 mod Among
+mod OtherNames
+mod MigratingRows
+mod MigratingChanges
 mod Begins
 pub mod Standing
 mod Held

@@ -1,6 +1,6 @@
 -- The names that most definitions and contracts here cite, passed on from one place. Declares nothing.
-pub use Rattle.editions.specs.Editions.{Allows, AreRowsIn, HaveNoLater, migrating_changes, olds, rows_in_edition}
-pub use Rattle.editions.specs.declared.Edition.{Edition}
+pub use Rattle.store.specs.Migration.{Allows, AreRowsIn, migrating_changes, olds, rows_in_edition}
+pub use Rattle.store.specs.declared.edition.Edition.{Edition}
 pub use Rattle.rolls.specs.Fit.{IsFit}
 pub use Rattle.rolls.specs.Rows.{AreRowsOf, rows_in}
 pub use Rattle.rolls.specs.State.{State, empty}

@@ -1,7 +1,7 @@
 -- The editions of the tables: which tables hold rows in each, and its number.
 use Rattle.std.specs.Prelude.{◌∷◌, ℕ, ⊤, List, [], drop, take}
 use Rattle.store.specs.Common.{Edition, olds, Table, EditionTable}
-use Rattle.editions.specs.declared.Edition.TheVariants.{First, Second, Third}
+use Rattle.store.specs.declared.edition.Edition.TheVariants.{First, Second, Third}
 use Rattle.store.specs.Rows.{rolls}
 
 -- the edition in which tables are made

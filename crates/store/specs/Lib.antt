@@ -1,6 +1,7 @@
 pub mod Common
 pub mod Rows
 pub mod Editions
+pub mod Migration
 pub mod Tables
 pub mod Saving
 pub mod Reading

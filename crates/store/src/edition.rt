@@ -5,10 +5,20 @@ ghost use Rattle.store.specs.Editions.{beyond, number_of, rolls_of};
 ghost use Rattle.store.specs.Tables.{HasNone, HasNoneOf};
 
 use crate::all_tables::TABLES;
-use editions::Edition;
 use sqlite_schema::schema::Schema;
 use tables::Table;
 use tables::layout::has_table;
+
+/// An edition of the tables.
+#[derive(Clone, Copy, PartialEq, Eq, Drop)]
+pub enum Edition {
+    /// Rounds have no aim: all are greedy. Lists have eight places at most.
+    First,
+    /// Each round has an aim. Lists have eight places at most.
+    Second,
+    /// Each round has an aim, and lists have twelve places at most, in tables of their own.
+    Third,
+}
 
 /// The edition in which tables are made.
 pub const LATEST: Edition = Edition::Third;

@@ -3,14 +3,12 @@
 ghost use Rattle.store.specs.Laws.{OpensAgain, TakesChanges, TakesTables};
 
 use change_laws::rows_law;
-use editions::migrated_rows_law;
 
 /// Tables that stand for an office are opened as that office and no other, from the trees of their database alone.
 pub fn opening_law()
     ensures { OpensAgain }
 {
     rows_law();
-    migrated_rows_law();
 }
 
 /// Tables as they are made here take each change of a valid request.

@@ -10,20 +10,21 @@
 //! are left alone. `has_none` says whether a database is new. Begin with `specs/Tables.antt`, then `store.rt`.
 //!
 //! A further table of rows is one more of `TABLES`, with the editions that have it (`rolls_of`) and that lack it (`beyond`); a further
-//! edition is an arm each in `edition.rt` and in `specs/Editions.antt`.
+//! edition is an arm each in `edition.rt` and `migration.rt`, and in `specs/Editions.antt` and `specs/Migration.antt`.
 #![tactic(auto)]
 
 mod all_tables;
 mod edition;
 mod fault;
 mod laws;
+mod migration;
 mod quiet;
 mod reading;
 mod rows;
 mod store;
 mod transaction;
 
-pub use edition::has_none;
+pub use edition::{Edition, has_none};
 pub use fault::StoreFault;
 pub use laws::{available_law, founding_law, opening_law};
 pub use store::Store;

@@ -8,12 +8,10 @@ ghost use Rattle.store.specs.Editions.{number_of, rolls_of};
 ghost use Rattle.store.specs.Tables.{numbered};
 ghost use Rattle.store.specs.Reading.{AreAllListed, IsUnfitIn};
 
-use crate::edition::{number_of, rolls_of};
+use crate::edition::{Edition, number_of, rolls_of};
 use crate::fault::StoreFault;
+use crate::migration::{migrated_rows, migrating_changes};
 use crate::rows::rows_with;
-use editions::{
-    Edition, migrated_rows, migrated_rows_law, migrating_changes, migrating_changes_law,
-};
 use office::Office;
 use rolls::{Change, Row};
 use sqlite::{Alter, Connection, Row as Cells};
@@ -199,8 +197,6 @@ pub fn office_in<S: Alter>(
         → IsUnfitIn edition (state S.Store conn.old).now }
     ensures reads { IsReading StoreFault.Storage IsHinderedReading result (state S.Store conn.old) (state S.Store conn.new) }
 {
-    migrated_rows_law();
-    migrating_changes_law();
     let rows = rows_in(alloc, conn, edition)?;
     // While the rows of this edition are there: `migrated_rows` takes them over.
     let changes = migrating_changes(alloc, edition, &rows)?;

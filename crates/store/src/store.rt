@@ -11,12 +11,11 @@ ghost use Rattle.store.specs.Reading.{AreListed};
 ghost use Rattle.store.specs.Saving.{AreActedOn, IsSafe, IsSaving, Saves};
 
 use crate::all_tables::MIGRATED;
-use crate::edition::{LATEST, edition_of, has_none};
+use crate::edition::{Edition, LATEST, edition_of, has_none};
 use crate::fault::StoreFault;
 use crate::quiet::{are_left, are_left_among};
 use crate::reading::office_in;
 use crate::transaction::{Task, transact};
-use editions::Edition;
 use office::Office;
 use rolls::Change;
 use sqlite::{Alter, Connection};

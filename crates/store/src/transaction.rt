@@ -6,9 +6,8 @@ ghost use Rattle.store.specs.Causes.{applying, creating, latest_number, migratin
 ghost use Rattle.store.specs.Saving.{IsSafe};
 
 use crate::all_tables::TABLES;
-use crate::edition::{LATEST, beyond, number_of};
+use crate::edition::{Edition, LATEST, beyond, number_of};
 use crate::fault::StoreFault;
-use editions::Edition;
 use row_model::{Cell, Change};
 use sqlite::{Alter, Connection, Transaction};
 use tables::Table;

@@ -1,11 +1,25 @@
 -- For proofs alone. What the rows that are read from the tables say.
-use Rattle.std.specs.Prelude.{◌≡◌, ◌≢◌, ◌⊎◌, ◌<◌, ◌^◌, [], take, ⊤, ℕ, true, IsTrue, IsUtf8, List, map, drop, nat_lt}
-use Rattle.store.specs.Common.{AllByRecursion, Values, Database, AnyCell as Cell, Text, Number, Bytes, Table, Change, Cells, IsRow, RowOf, SameRows, are_of, of_table, after_changes, IsFit, rows_in, State, Edition as AnEdition, Allows, AreRowsIn, HaveNoLater, rows_in_edition, migrating_changes, Schema, Seen, IsUnchanged, Has, Place, Lists, table_at, Stands, ℕ, Option, IsUnread, Edition}
+use Rattle.std.specs.Prelude.{◌≡◌, ◌≢◌, ◌⊎◌, ◌<◌, ◌^◌, [], take, ⊤, ℕ, true, IsTrue, IsUtf8, List, ◌++◌, map, drop, nat_lt}
+use Rattle.store.specs.Common.{AllByRecursion, Values, Database, AnyCell as Cell, Text, Number, Bytes, Table, Change, Cells, IsRow, RowOf, SameRows, are_of, of_table, after_changes, IsFit, rows_in, State, Edition as AnEdition, Allows, AreRowsIn, rows_in_edition, migrating_changes, Schema, Seen, IsUnchanged, Has, Place, Lists, table_at, Stands, ℕ, Option, IsUnread, Edition}
 use Rattle.row_model.specs.declared.cell.Kind.{Kind}
+use Rattle.row_model.specs.declared.table.Table.TheVariants.{RoundAim}
+use Rattle.store.specs.declared.edition.Edition.TheVariants.{First, Second}
+use Rattle.store.specs.Migration.{aims_of, renamed_row}
 use Rattle.store.specs.Tables.{HoldIn, StandsIn, HasNone, HasNoneOf}
 use Rattle.store.specs.Editions.{migrated, rolls_of, beyond, number_of}
 use Rattle.store.specs.Saving.{AllNeed, AreLeftAmong}
 use Rattle.store.specs.Rows.{IsAmong, values}
+
+-- what the rows of an edition are in the latest
+abbrev pub migrated_rows : AnEdition → List RowOf → List RowOf
+migrated_rows First rows = map renamed_row (rows ++ aims_of rows)
+migrated_rows Second rows = map renamed_row rows
+migrated_rows _ rows = rows
+
+-- no row is the aim of a round where rounds have none
+abbrev pub HaveNoLater : AnEdition → List RowOf → Type 0
+HaveNoLater First rows = of_table rows RoundAim ≡ []
+HaveNoLater _ rows = ⊤
 
 -- a cell as the program has it: its text is UTF-8 and its number is of type `u32`
 abbrev pub IsTyped : Cell → Type 0

@@ -1,5 +1,5 @@
 -- The rows of an office in each edition of the tables, and the changes that bring those of an earlier one to the latest.
-use Rattle.std.specs.Prelude.{◌≡◌, ◌↔◌, ℕ, Bool, false, ⊤, List, [], ◌∷◌, ◌++◌, map, filter, take}
+use Rattle.std.specs.Prelude.{◌≡◌, ℕ, Bool, false, ⊤, List, [], ◌∷◌, ◌++◌, map, filter, take}
 use Rattle.std.specs.List.{list_any}
 use Rattle.spa.specs.declared.aim.Aim.TheVariants.{Greedy}
 use Rattle.row_model.specs.declared.table.Table.{Table}
@@ -8,12 +8,10 @@ use Rattle.row_model.specs.declared.row.Change.{Change}
 use Rattle.row_model.specs.declared.row.Change.TheVariants.{Add, Remove}
 use Rattle.row_model.specs.declared.row.Group.TheVariants.{Key}
 use Rattle.row_model.specs.Rows.{AllRows, SameRows, Cells, RowOf, key_in, of_table, same_table}
-use Rattle.row_model.specs.Changes.{TransformsRows}
-use Rattle.rolls.specs.Fit.{IsFit}
 use Rattle.rolls.specs.State.{State, aim_of}
-use Rattle.rolls.specs.Rows.{AreRowsOf, flag, rows_in}
-use Rattle.editions.specs.declared.Edition.{Edition}
-use Rattle.editions.specs.declared.Edition.TheVariants.{First, Second, Third}
+use Rattle.rolls.specs.Rows.{flag, rows_in}
+use Rattle.store.specs.declared.edition.Edition.{Edition}
+use Rattle.store.specs.declared.edition.Edition.TheVariants.{First, Second, Third}
 
 -- the table that took a table's place, and the other way round
 abbrev pub renamed : Table → Table
@@ -57,12 +55,6 @@ aims_of rows = map aim_row (of_table rows Round)
 abbrev pub renamed_row : RowOf → RowOf
 renamed_row r = record r { table = renamed r.table }
 
--- what the rows of an edition are in the latest
-abbrev pub migrated_rows : Edition → List RowOf → List RowOf
-migrated_rows First rows = map renamed_row (rows ++ aims_of rows)
-migrated_rows Second rows = map renamed_row rows
-migrated_rows Third rows = rows
-
 -- the tables of earlier editions
 abbrev pub olds : List Table
 olds = OldChoice ∷ OldPlacement ∷ []
@@ -88,16 +80,3 @@ abbrev pub migrating_changes : Edition → List RowOf → List Change
 migrating_changes First rows = renaming_changes rows (aims_of rows)
 migrating_changes Second rows = renaming_changes rows []
 migrating_changes Third rows = []
-
--- no row is the aim of a round where rounds have none
-abbrev pub HaveNoLater : Edition → List RowOf → Type 0
-HaveNoLater First rows = of_table rows RoundAim ≡ []
-HaveNoLater _ rows = ⊤
-
--- rows that have none of a later edition are those of a fit office in theirs exactly where what they are in the latest is its rows
-abbrev pub RowsMigrate : Type 0
-RowsMigrate = (e : Edition) (rows : List RowOf) (o : State) → HaveNoLater e rows → IsFit o → AreRowsIn e rows o ↔ AreRowsOf (migrated_rows e rows) o
-
--- the changes transform the rows that a fit office has in an edition into those it has in the latest, and add none at a key that has one
-abbrev pub ChangesMigrate : Type 0
-ChangesMigrate = (e : Edition) (rows : List RowOf) (o : State) → IsFit o → AreRowsIn e rows o → TransformsRows (migrating_changes e rows) (rows_in_edition e o) (rows_in o)

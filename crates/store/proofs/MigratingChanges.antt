@@ -1,11 +1,10 @@
 -- The changes that migrate an edition: old rows go by their keys, and come in the tables that took their tables' place, the aims of greedy
 -- rounds next to them. A row that goes is one of the edition's, so none is left in an old table.
-use Rattle.editions.proofs.Common.{IsPermutation, ◌&&◌, ◌||◌, list_any, AllByRecursion, and_from, or_left, or_right, All-from_recursion, recursion_from_All, filter_passes, IsPermutation-refl, IsPermutation-trans, IsPermutation-map, IsPermutation-middle, All-permutation, filter-filter, filter_none, all_weaker, all_both, all-filter, Table, EditionTable, Round, RoundAim, Add, AllRows, SameRows, Cells, RowOf, begins, key_in, keyed, of_table, same_table, same_table_is, same_table_self, IsFit, aim_cells, rows_in, State, AreFree, after_both, fresh_both, change_elsewhere, nothing_transforms, from_same, to_same, First, Second, Third, ChangesMigrate, aim_of_round, aims_of, is_old, is_old_table, removal_of, renamed, renamed_row, renaming_changes, rows_in_edition, ◌≡◌, Bool, true, false, not, cond, List, [], ◌∷◌, ◌++◌, map, filter, refl, sym, ap, subst, ◌∙◌, append-nil}
+use Rattle.store.proofs.Common.{AnEdition, IsPermutation, ◌&&◌, ◌||◌, list_any, AllByRecursion, and_from, or_left, or_right, All-from_recursion, recursion_from_All, filter_passes, IsPermutation-refl, IsPermutation-trans, IsPermutation-map, IsPermutation-middle, All-permutation, filter-filter, filter_none, all_weaker, all_both, all-filter, Table, Edition, Round, RoundAim, Add, AllRows, SameRows, Cells, RowOf, begins, key_in, keyed, of_table, same_table, same_table_is, same_table_self, IsFit, aim_cells, rows_in, State, AreFree, after_both, fresh_both, change_elsewhere, nothing_transforms, from_same, to_same, First, Second, Third, AreRowsIn, migrating_changes, aim_of_round, aims_of, is_old, is_old_table, removal_of, renamed, renamed_row, renaming_changes, rows_in_edition, ◌≡◌, Bool, true, false, not, cond, List, [], ◌∷◌, ◌++◌, map, filter, refl, sym, ap, subst, ◌∙◌, append-nil}
 use Rattle.row_model.specs.Changes.{IsFresh, AreFresh, TransformsRows, after_change, after_changes}
 use Rattle.change_laws.proofs.Keyed.{begins_self}
 use Rattle.change_laws.proofs.Apart.{rows_apart, apart_free}
-use Rattle.editions.specs.declared.Edition.{Edition}
-use Rattle.editions.proofs.OtherNames.{is_in, rows_both, renamed_twice, swapped, aims_come, no_others, greedy_rows, first_else}
+use Rattle.store.proofs.OtherNames.{is_in, rows_both, renamed_twice, swapped, aims_come, no_others, greedy_rows, first_else}
 
 -- rows that are added stand next to those that were there
 all_added : (rs : List RowOf) (rows : AllRows) (t : Table) → IsPermutation (after_changes (map Add rs) rows t) (of_table rs t ++ rows t)
@@ -105,30 +104,30 @@ old_alone t old rows = ap (map (λ r. r.cells)) (filter-filter (is_in t) is_old 
 
 -- what took an old table's place is no old one, and neither has the aims; an office has no rows in an old one
 took_new : (t : Table) → is_old_table (renamed t) ≡ true → is_old_table t ≡ false
-took_new EditionTable h = cc
+took_new Edition h = cc
 took_new _ h = cc
 
 took_other : (t : Table) → is_old_table (renamed t) ≡ true → same_table t RoundAim ≡ false
-took_other EditionTable h = cc
+took_other Edition h = cc
 took_other _ h = cc
 
 old_other : (t : Table) → is_old_table t ≡ true → same_table t RoundAim ≡ false
-old_other EditionTable h = cc
+old_other Edition h = cc
 old_other _ h = cc
 
 none_old : (o : State) (t : Table) → is_old_table t ≡ true → rows_in o t ≡ []
-none_old o EditionTable h = cc
+none_old o Edition h = cc
 none_old o _ h = cc
 
 -- and a table that is neither keeps its name
 own_name : (t : Table) → is_old_table t ≡ false → is_old_table (renamed t) ≡ false → renamed t ≡ t
-own_name EditionTable old took = refl
+own_name Edition old took = refl
 own_name _ old took = cc
 
 -- ---- a migration
 
 -- Rows of an edition before the third, and what comes next to them: the aims of rounds alone.
-module _ (e : Edition) (rows more : List RowOf) (o : State) (fit : IsFit o) (are : SameRows (of_table rows) (rows_in_edition e o))
+module _ (e : AnEdition) (rows more : List RowOf) (o : State) (fit : IsFit o) (are : SameRows (of_table rows) (rows_in_edition e o))
     (was : (t : Table) → same_table t RoundAim ≡ false → rows_in_edition e o t ≡ rows_in o (renamed t)) (none : (t : Table) → same_table t RoundAim ≡ false → of_table more t ≡ [])
     (aims_free : AreFree RoundAim (of_table more RoundAim) (rows_in_edition e o RoundAim)) (aims : IsPermutation (of_table more RoundAim ++ rows_in_edition e o RoundAim) (rows_in o RoundAim)) where
   -- the edition's old rows
@@ -191,18 +190,19 @@ module _ (e : Edition) (rows more : List RowOf) (o : State) (fit : IsFit o) (are
       by t false false true took is was_old = from_same (λ i. (beside t took ∙ none t is) i ++ gone t was_old i) (to_same (IsPermutation-refl _) (sym (none_old o t was_old)))
       by t false false false took is was_old = from_same (λ i. (beside t took ∙ none t is) i ++ (stay t was_old ∙ was t is ∙ ap (rows_in o) (own_name t was_old took)) i) (IsPermutation-refl _)
 
-  raised : TransformsRows (renaming_changes rows more) (rows_in_edition e o) (rows_in o)
-  raised = record {
+  transforms : TransformsRows (renaming_changes rows more) (rows_in_edition e o) (rows_in o)
+  transforms = record {
     fresh = fresh_both (map removal_of left_behind) (map Add news) (rows_in_edition e o) (removals_fresh left_behind (rows_in_edition e o)) (adds_fresh news left free);
     rows = λ t.
         from_same (ap (λ (rows : AllRows). rows t) (after_both (map removal_of left_behind) (map Add news) (rows_in_edition e o)))
         (IsPermutation-trans _ _ _ (all_added news left t) (then t));
   }
 
-pub changes_migrate : ChangesMigrate
+-- the changes transform the rows that a fit office has in an edition into those it has in the latest, and add none at a key that has one
+pub changes_migrate : (e : AnEdition) (rows : List RowOf) (o : State) → IsFit o → AreRowsIn e rows o → TransformsRows (migrating_changes e rows) (rows_in_edition e o) (rows_in o)
 changes_migrate Third rows o fit are = nothing_transforms (rows_in o)
-changes_migrate Second rows o fit are = raised Second rows [] o fit are.same (λ t other. refl) (λ t other. refl) tt (IsPermutation-refl _)
-changes_migrate First rows o fit are = raised First rows (aims_of rows) o fit are.same (first_else o) (no_others rows) (apart_free RoundAim _ _ aims (rows_apart o fit RoundAim)) (from_same (append-nil _) aims)
+changes_migrate Second rows o fit are = transforms Second rows [] o fit are.same (λ t other. refl) (λ t other. refl) tt (IsPermutation-refl _)
+changes_migrate First rows o fit are = transforms First rows (aims_of rows) o fit are.same (first_else o) (no_others rows) (apart_free RoundAim _ _ aims (rows_apart o fit RoundAim)) (from_same (append-nil _) aims)
   where
     aims : IsPermutation (of_table (aims_of rows) RoundAim) (map aim_cells o.aims)
     aims =

@@ -1,10 +1,10 @@
 -- The rows that an office has in an edition, with tables renamed, and in the first one with the aims of its rounds, are its rows in the
 -- latest.
-use Rattle.editions.proofs.Common.{IsPermutation, AllByRecursion, option_map_or, All-from_recursion, recursion_from_All, IsPermutation-map, All-permutation, IsPermutation-same, all-map, all_unmap, all_weaker, Greedy, Generous, Number, Table, Round, RoundAim, Cells, RowOf, begins, of_table, same_table, AimEntry, AreRowsOf, aim_cells, rows_in, State, aim_key, IsFit, by_table, from_same, to_same, First, Second, Third, AreRowsIn, HaveNoLater, RowsMigrate, aim_of_round, aims_of, renamed, renamed_row, rows_in_edition, ◌≡◌, false, drop, List, [], ◌∷◌, ◌++◌, map, Option, Some, None, refl, sym, ap, ◌∙◌, append-nil}
+use Rattle.store.proofs.Common.{IsPermutation, AllByRecursion, option_map_or, All-from_recursion, recursion_from_All, IsPermutation-map, All-permutation, IsPermutation-same, all-map, all_unmap, all_weaker, Greedy, Generous, Number, Table, Round, RoundAim, Cells, RowOf, begins, of_table, same_table, AimEntry, AreRowsOf, aim_cells, rows_in, State, aim_key, IsFit, by_table, from_same, to_same, First, Second, Third, AreRowsIn, HaveNoLater, AnEdition, ◌↔◌, migrated_rows, aim_of_round, aims_of, renamed, renamed_row, rows_in_edition, ◌≡◌, false, drop, List, [], ◌∷◌, ◌++◌, map, Option, Some, None, refl, sym, ap, ◌∙◌, append-nil}
 use Rattle.spa.specs.declared.aim.Aim.{Aim}
 use Rattle.rolls.specs.Roll.{find}
 use Rattle.rolls.proofs.Found.{holds_of_found}
-use Rattle.editions.proofs.OtherNames.{rows_both, renamed_twice, swapped, aims_come, no_others, greedy_rows, first_else}
+use Rattle.store.proofs.OtherNames.{rows_both, renamed_twice, swapped, aims_come, no_others, greedy_rows, first_else}
 
 -- ---- the second edition
 
@@ -81,7 +81,8 @@ module _ (rows : List RowOf) (o : State) (none : HaveNoLater First rows) (fit : 
       greedy None each = refl
       greedy (Some a) each = each a refl
 
-pub rows_migrate : RowsMigrate
+-- rows that have none of a later edition are those of a fit office in theirs exactly where what they are in the latest is its rows
+pub rows_migrate : (e : AnEdition) (rows : List RowOf) (o : State) → HaveNoLater e rows → IsFit o → AreRowsIn e rows o ↔ AreRowsOf (migrated_rows e rows) o
 rows_migrate First rows o none fit = (
   λ are. swaps (rows ++ aims_of rows) o (with_aims rows o none fit are),
   λ of. without_aims rows o none fit (swaps_back (rows ++ aims_of rows) o of),

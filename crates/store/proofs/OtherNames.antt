@@ -1,5 +1,5 @@
 -- Rows of all tables by their tables: those whose tables are renamed, and the aims that rounds come with.
-use Rattle.editions.proofs.Common.{◌==◌, AllByRecursion, option_map_or, eqb-true, filter-append, map-map, filter-map, all_weaker, Greedy, Number, Table, Round, RoundAim, Choice, Cells, RowOf, of_table, same_table, same_table_is, same_table_self, AimEntry, aim_cells, round_cells, flag, is_generous, State, aim_key, IsFit, are_aimed, First, Second, Allows, aim_of_round, aim_row, aims_of, renamed, renamed_row, rows_in_edition, ◌≡◌, Bool, true, false, cond, List, [], ◌∷◌, ◌++◌, map, filter, Option, refl, sym, ap, subst, ◌∙◌}
+use Rattle.store.proofs.Common.{◌==◌, AllByRecursion, option_map_or, eqb-true, filter-append, map-map, filter-map, all_weaker, Greedy, Number, Table, Round, RoundAim, Choice, Cells, RowOf, of_table, same_table, same_table_is, same_table_self, AimEntry, aim_cells, round_cells, flag, is_generous, State, aim_key, IsFit, are_aimed, First, Second, Allows, aim_of_round, aim_row, aims_of, renamed, renamed_row, rows_in_edition, ◌≡◌, Bool, true, false, cond, List, [], ◌∷◌, ◌++◌, map, filter, Option, refl, sym, ap, subst, ◌∙◌}
 use Rattle.std.specs.Cmp.{first_so, second_so}
 use Rattle.std.proofs.lemmas.List.{map-append}
 use Rattle.rolls.specs.declared.rounds.Round.{Round as RoundEntry}

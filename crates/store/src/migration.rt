@@ -1,27 +1,13 @@
-//! Editions of the tables: which rows an office has in each, and what brings those of an earlier one to the latest.
-//!
-//! Promised: what `migrated_rows` makes of the rows of an earlier edition is the rows of one office exactly where the office has
-//! them in that edition, and the changes that `migrating_changes` makes of them transform them into its rows in the latest; so making the
-//! changes migrates the tables. Nothing here knows of SQL: the changes are made as those of a request are.
-#![tactic(auto)]
+//! What brings the rows of an earlier edition of the tables to the latest. Nothing here knows of SQL: the changes are made as those of a
+//! request are.
 
 ghost use Rattle.std.specs.Prelude.{◌≡◌, ◌++◌, IfOk, map, filter};
-ghost use Rattle.editions.specs.Editions as says;
-ghost use Rattle.editions.specs.Editions.{RowsMigrate, ChangesMigrate};
+ghost use Rattle.store.specs.Inside.Reading as reading;
+ghost use Rattle.store.specs.Migration as says;
 
+use crate::edition::Edition;
 use rolls::{Cell, Change, Row, Table};
 use std::alloc::{AllocError, Global};
-
-/// An edition of the tables.
-#[derive(Clone, Copy, PartialEq, Eq, Drop)]
-pub enum Edition {
-    /// Rounds have no aim: all are greedy. Lists have eight places at most.
-    First,
-    /// Each round has an aim. Lists have eight places at most.
-    Second,
-    /// Each round has an aim, and lists have twelve places at most, in tables of their own.
-    Third,
-}
 
 /// Returns the aims of the rounds among rows of the first edition.
 fn aims_of(alloc: Global, rows: &[Row]) -> Result<Vec<Row>, AllocError>
@@ -77,7 +63,7 @@ pub fn migrated_rows(
     edition: Edition,
     mut rows: Vec<Row>,
 ) -> Result<Vec<Row>, AllocError>
-    ensures { IfOk result (λ all. all.items ≡ says.migrated_rows edition rows.items) }
+    ensures { IfOk result (λ all. all.items ≡ reading.migrated_rows edition rows.items) }
 {
     match edition {
         Edition::First => {
@@ -157,13 +143,3 @@ pub fn migrating_changes(
         Edition::Third => Ok(Vec::new(alloc)),
     }
 }
-
-/// The law that rows are those of an office in an edition where what they are in the latest is its rows there.
-pub fn migrated_rows_law()
-    ensures { RowsMigrate }
-{}
-
-/// The law that these changes transform the rows that an office has in an edition into those that it has in the latest.
-pub fn migrating_changes_law()
-    ensures { ChangesMigrate }
-{}

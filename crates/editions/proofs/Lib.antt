@@ -1,4 +1,0 @@
-mod Common
-pub mod OtherNames
-pub mod MigratingRows
-pub mod MigratingChanges
