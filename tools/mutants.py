@@ -3,8 +3,7 @@
 
 tools/mutants.py [CRATE..]     of these crates, or of all
 
-A mutant shows what the lines `why:` of its file say: the first is what it does itself. Each further line is a mistake that was refused by
-itself once, in the same function or in one below, and goes wrong in the same way, so that this mutant stands for it.
+A mutant makes the mistake that the line `why:` of its file names. Each line `also:` names a further one that the same edit makes.
 """
 import re
 import sys
@@ -19,12 +18,12 @@ def main(*crates):
     shown = 0
     for path in paths:
         _, crate, _, name = path.removesuffix(".edit").split("/")
-        whys = re.findall("^why: (.*)", read(path), re.M)
-        if not whys:
-            sys.exit(f"{path} does not say what goes wrong")
-        for why in whys:
-            print(f"{crate:12} {name:45} {why.strip()}")
-        shown += len(whys)
+        mistakes = re.findall("^(?:why|also): (.*)", read(path), re.M)
+        if len(re.findall("^why: ", read(path), re.M)) != 1:
+            sys.exit(f"{path} says what goes wrong in one line `why:`")
+        for mistake in mistakes:
+            print(f"{crate:12} {name:45} {mistake.strip()}")
+        shown += len(mistakes)
     print(f"{shown} mistakes, shown by {len(paths)} mutants")
 
 
