@@ -3,13 +3,16 @@
 
 tools/gate_costs.py [--anew] [CRATE..]     runs `rt ci` with these words, and ends with its status
 
-The seconds of each process of the prover are read out of /proc while it runs. What they leave of the whole, which the system counts, is
-the rest: the runs of tests and programs, the linker, and what a process used after it was read last. Of a crate's mutants the seed is the
-proof that each try begins with. The twenty dearest mutants follow, and each other one above 25 seconds: docs/GATE.md says why they are.
+A toolchain that stores what it proved takes `--anew` to prove all once more (kit 13f); one that stores nothing always does, and is not given
+the word (kit 13b). The seconds of each process of the prover are read out of /proc while it runs. What they leave of the whole, which the
+system counts, is the rest: the runs of tests and programs, the linker, and what a process used after it was read last. A mutant is known by
+its text, in the folder in which the prover works. The seed is the proof that the tries of a crate's mutants begin with (13f; in 13b it is the
+first of these tries). The twenty dearest mutants follow, and each other one above 25 seconds.
 """
 import collections
 import functools
 import os
+import pathlib
 import re
 import subprocess
 import sys
@@ -24,29 +27,46 @@ KINDS = ("proof", "tests", "seed", "tries")
 
 @functools.cache
 def mutants(crate):
-    """The names of the crate's mutants, in the order in which they are tried."""
-    return [os.path.basename(path).removesuffix(".edit") for path in listed(f"crates/{crate}/must-fail/*.edit")]
+    """Of each mutant of the crate the name, and what its edits make of the files, by path."""
+    found = []
+    for path in listed(f"crates/{crate}/must-fail/*.edit"):
+        texts, file, old = {}, "", ""
+        for line in read(path).split("\n"):
+            word, _, said = line.partition(": ")
+            if word == "file":
+                file = said.strip()
+                texts.setdefault(file, read("crates", crate, file))
+            elif word == "old":
+                old = said
+            elif word in ("new", "new:"):
+                texts[file] = texts[file].replace(old, said)
+        found.append((os.path.basename(path).removesuffix(".edit"), texts))
+    return found
 
 
-def task(words):
+def tried(pid, crate):
+    """The name of the mutant in whose folder a process works, if it works at one."""
+    room = os.readlink(f"/proc/{pid}/cwd")
+    for name, texts in mutants(crate):
+        if all(pathlib.Path(room, file).read_text(encoding="utf-8") == text for file, text in texts.items()):
+            return name
+    return None
+
+
+def task(pid, words):
     """What a process of the prover works at: a crate, and its proof, that of its tests, its seed, or a mutant by name."""
     if "--crate-name" not in words:
         return None
     crate = words[words.index("--crate-name") + 1]
     kept = words[words.index("--incremental") + 1] if "--incremental" in words else ""
-    name = os.path.basename(kept)
     if "check" not in words[:2]:
         return crate, "tests" if "--test" in words else "proof"
-    if name.isdigit():
-        names = mutants(crate)
-        return crate, names[int(name)] if int(name) < len(names) else "tries"
-    if name == "seed":
+    if os.path.basename(kept) == "seed":
         return crate, "seed"
-    # a crate with one mutant has no seed, and one that is built by no other is checked
-    return crate, mutants(crate)[0] if len(mutants(crate)) == 1 else "proof"
+    return crate, tried(pid, crate) or "proof"
 
 
-def seen(pid):
+def seen(pid, used):
     """A process of the prover that this run started, what it works at, and the seconds that it has used; nothing of another."""
     try:
         with open(f"/proc/{pid}/stat", encoding="utf-8", errors="replace") as file:
@@ -54,11 +74,13 @@ def seen(pid):
         fields = fields.split()
         if name != "rattle" or int(fields[3]) != os.getsid(0):
             return None
-        with open(f"/proc/{pid}/cmdline", encoding="utf-8", errors="replace") as file:
-            at = task(file.read().split("\0"))
+        process = pid, fields[19]
+        if process not in used:
+            with open(f"/proc/{pid}/cmdline", encoding="utf-8", errors="replace") as file:
+                used[process] = task(pid, file.read().split("\0")), 0
+        return process, used[process][0], (int(fields[11]) + int(fields[12])) / TICKS
     except OSError:
         return None
-    return at and ((pid, fields[19]), at, (int(fields[11]) + int(fields[12])) / TICKS)
 
 
 def watched(gate):
@@ -68,16 +90,19 @@ def watched(gate):
         pid, status, whole = os.wait4(gate.pid, os.WNOHANG)
         if pid:
             break
-        for process, at, seconds in filter(None, map(seen, filter(str.isdigit, os.listdir("/proc")))):
+        for process, at, seconds in filter(None, (seen(pid, used) for pid in os.listdir("/proc") if pid.isdigit())):
             used[process] = at, seconds
         time.sleep(EVERY)
     tasks = collections.Counter()
     for at, seconds in used.values():
-        tasks[at] += seconds
+        if at:
+            tasks[at] += seconds
     return tasks, whole.ru_utime + whole.ru_stime, os.waitstatus_to_exitcode(status)
 
 
 def main(*words):
+    usage = subprocess.run(["rt", "help"], stdout=subprocess.PIPE, stderr=subprocess.STDOUT, text=True).stdout
+    words = [word for word in words if word != "--anew" or "--anew" in usage]
     start = time.monotonic()
     tasks, whole, status = watched(subprocess.Popen(["rt", "ci", *words], cwd=TOP))
     crates = collections.defaultdict(collections.Counter)

@@ -2,6 +2,7 @@
 """Lists what a mutant shows that goes wrong, and the mutant that shows it: a function's body with one mistake, which the prover must refuse.
 
 tools/mutants.py [CRATE..]     of these crates, or of all
+tools/mutants.py --check       only whether each file says what goes wrong, and by what
 
 A mutant makes the mistake that the line `why:` of its file names. Each line `also:` names a further one that the same edit makes.
 """
@@ -14,14 +15,15 @@ from office import listed, read
 def main(*crates):
     if "--help" in crates:
         sys.exit(__doc__)
-    paths = listed(*(f"crates/{crate}/must-fail/*.edit" for crate in crates or ["*"]))
+    is_check = crates == ("--check",)
+    paths = listed(*(f"crates/{crate}/must-fail/*.edit" for crate in (not is_check and crates) or ["*"]))
     shown = 0
     for path in paths:
         _, crate, _, name = path.removesuffix(".edit").split("/")
         mistakes = re.findall("^(?:why|also): (.*)", read(path), re.M)
         if len(re.findall("^why: ", read(path), re.M)) != 1:
             sys.exit(f"{path} says what goes wrong in one line `why:`")
-        for mistake in mistakes:
+        for mistake in mistakes if not is_check else ():
             print(f"{crate:12} {name:45} {mistake.strip()}")
         shown += len(mistakes)
     print(f"{shown} mistakes, shown by {len(paths)} mutants")

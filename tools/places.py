@@ -2,7 +2,7 @@
 """Counts the places that name something: runs of neighbouring lines, at most three apart, of code, definitions and proofs.
 
     tools/places.py PATTERN [CRATE..]    for example: tools/places.py '[Cc]hoice\\b|CHOICE' tables store
-    tools/places.py --page               compares the counts that docs/ARCHITECTURE.md names, and ends with status 1 where one differs
+    tools/places.py --page               compares the counts that CONTRIBUTING.md names, and ends with status 1 where one differs
 
 Without a crate it counts in all but those of tests. Comments and imports don't count. A line for each file, then the sum.
 """
@@ -30,7 +30,7 @@ def counted(pattern, crates=()):
 
 def compare():
     wrong = 0
-    for name, *told in re.findall(r"`([\w|-]+)` (\d+) places in (\d+) files", read("docs", "ARCHITECTURE.md")):
+    for name, *told in re.findall(r"`([\w|-]+)` (\d+) places in (\d+) files", read("CONTRIBUTING.md")):
         counts = counted(rf"\b(?:{name})\b")
         there = [str(sum(counts.values())), str(len(counts))]
         wrong += told != there

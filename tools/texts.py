@@ -75,7 +75,7 @@ UNTRUE = {
     "After any of them office and tables are as before.": "after refusal 2 a crash may still leave the change",
     "Nothing here chooses a matching; `network` and `solver` do": "the search chooses it",
     "ables, each told once": "columns stand in code and definition",
-    "A further table is a variant of `Table`, its shape and its texts in": "it stands at more places: docs/ARCHITECTURE.md",
+    "A further table is a variant of `Table`, its shape and its texts in": "it stands at more places: CONTRIBUTING.md",
     "A further table of rows is one of `TABLES` more;": "the editions that have it and lack it are named too",
     "that need a loop": "some of them need none",
     "in the definitions also its number and its CHECK": "the number is in the model of rows",
