@@ -18,7 +18,8 @@ KIT = os.path.dirname(subprocess.run(["rt", "doc"], check=True, stdout=subproces
 # What the toolchain has of its own: the standard library with its parts, and a reader of JSON that is no port. They have no licence text.
 OWN = {"core", "io", "json", "libc", "os", "std"}
 HEAD = """spadesk and the proved code in its pages are linked from this repository, which is MIT OR Apache-2.0, and from crates of the toolchain. Most
-are ports, made from the text of crates of other authors. Here are the licence texts of those.
+are ports, made from the text of crates of other authors. Here are the licence texts of those. The toolchain gives no licence text for what
+is its own: its standard library (core, std, io, os, libc) and its reader of JSON (json).
 
 """
 # the pages that have the module, and where their notices stand
