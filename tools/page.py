@@ -136,7 +136,7 @@ def ordinal(rank):
 
 
 OFFICE = ("first_round", "term", "habits", "traps", "exports", "long", "acts", "further", "hostile", "refusals", "mistakes", "drawn", "greatest")
-PARTS = (*OFFICE, "student", "roles", "keyboard", "phone", "supervisor")
+PARTS = (*OFFICE, "student", "roles", "held", "keyboard", "phone", "supervisor")
 IN_FIREFOX = ("first_round", "habits", "drawn", "student")
 PAGES = ("office.html", "student.html", "supervisor.html", "check.html")
 SERVICE, WEB, REDIRECTED, DRIVER = (free_port() for _ in range(4))

@@ -57,7 +57,7 @@ class Sheets:
         start = self.sent()
         self.chosen(name, content)
         seen = [self.it.run(f"return document.querySelectorAll('{css}').length") for css in (".asked", "#send", ".asked td select")]
-        seen.append(self.it.run("return document.querySelector('.asked [name=kind]').value"))
+        seen.append(self.it.run("return document.querySelector('.asked [name=kind]')?.value"))
         self.check(f"{name} is asked about", seen, [1, 0, 0, ""])
         self.check("and nothing is sent", self.sent(), start)
 
