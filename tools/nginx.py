@@ -3,12 +3,13 @@
 
 tools/nginx.py SPADESK [NGINX]     without NGINX the one of the PATH; where there is none it says so
 
-Three things of the file are others here: there is no certificate, and so no `ssl`; the port at which nginx listens; the folders. The ports
+Three things of the file are others here: there is no certificate, and so no `ssl`; the ports at which nginx listens; the folders. The ports
 8080 and 8081 must be free. At the end a service of this tool's stands there, which breaks off with a reset. tools/page.py tries the other
 roles, and tools/serving.py the file as it is.
 """
 import base64
 import http.client
+import re
 import shutil
 import socket
 import struct
@@ -18,16 +19,21 @@ import tempfile
 import threading
 import time
 
-from office import read, serving, written
+from office import free_port, read, serving, written
 
 USER = {"Authorization": "Basic " + base64.b64encode(b"keeper:secret").decode()}
 OWN, FOREIGN = {"Origin": "https://office.school.example"}, {"Origin": "https://other.example"}
 
 
+def plain(port, redirected):
+    """The text of page/nginx.conf at this port without a certificate, and at another in the place of port 80."""
+    text = re.sub(r" *(?:ssl_certificate|listen \[::\]).*\n", "", read("page", "nginx.conf"))
+    return text.replace("listen 443 ssl;", f"listen 127.0.0.1:{port};").replace("listen 80;", f"listen 127.0.0.1:{redirected};")
+
+
 def config(folder):
     """The whole file of nginx around page/nginx.conf."""
-    lines = read("page", "nginx.conf").replace("listen 443 ssl;", "listen 127.0.0.1:8081;").splitlines(True)
-    text = "".join(line for line in lines if "ssl_certificate" not in line)
+    text = plain(8081, free_port())
     for place in ("/etc/nginx", "/etc/spadesk", "/usr/share/spadesk", "/var/lib/nginx"):
         text = text.replace(place, folder)
     paths = "".join(f"{it}_temp_path {folder}/{it};\n" for it in ("client_body", "proxy", "fastcgi", "uwsgi", "scgi"))

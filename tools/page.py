@@ -3,8 +3,8 @@
 
 tools/page.py SPADESK [--shots FOLDER] [--seal] [--only PART,..] [--mutants]
 
-It needs nginx, chromium and chromedriver (Debian: chromium-driver). The trials of the student's and the supervisor's page stand in
-people_pages.py; --mutants runs these alone, on pages with one mistake each, of which every one must be seen.
+It needs nginx, chromium and chromedriver (Debian: chromium-driver). Further trials stand in people_pages.py and school_sheets.py; --mutants
+runs all on pages with one mistake each, of which every one must be seen.
 
 It needs no other package: chromedriver is spoken to by HTTP; where one of the three is missing it says so. --shots keeps pictures of the
 pages, of which docs/office.png is one. --seal writes into the pages the hashes of their style and script, by which alone the browser takes
@@ -30,9 +30,10 @@ import tempfile
 import time
 
 from firefox import Firefox
-from nginx import started
+from nginx import plain, started
 from office import TOP, copy, free_port, read, serving
 from people_pages import MUTANTS, People
+from school_sheets import SHEET_MUTANTS, Sheets
 from sheets import guided
 
 ELEMENT = "element-6066-11e4-a52e-4f735466cecf"
@@ -56,16 +57,16 @@ OFFICE_MUTANTS = [
     ("drawn", "office.html", "`Round ${before.round} can then not", "`Round ${before.round} may then not", "what becomes final is said"),
     ("drawn", "office.html", "rows = foundRows();\n  const part", "rows = shown.rows;\n  const part", "saved as filtered"),
     ("term", "office.html", 'byId("list").elements.list.value = choices.join(" ");', "", "what it was"),
-    ("habits", "office.html", "=> quota || !hit.length", "=> quota !== 0 || quota === 0", "whose lists a withdrawal hits"),
-    ("habits", "office.html", 'kind === "projects" && key', 'kind === "students" && key', "and in a sheet"),
+    ("habits", "office.html", "Math.max(0, now - placed)", "Math.max(1, now - placed)", "whose lists a withdrawal hits"),
+    ("habits", "office.html", "Number(now) < Number(old)", "Number(now) > Number(old)", "and in a sheet"),
     ("habits", "office.html", "code => !standing(kind, code)", "code => standing(kind, code)", "what hangs on a row that is left out"),
     ("habits", "office.html", "cell.trim().toUpperCase();", "cell.toUpperCase();", "what is clear is shown"),
     ("habits", "office.html", ' && (sheet.kind !== "lists" || openOne())', "", "lists wait for a round"),
     ("habits", "office.html", "bytes[0] === 0x50", "bytes[0] === 0x51", "a workbook"),
-    ("habits", "office.html", "planned.set(sheet.head.join()", "planned.set(sheet.name", "a first row that was asked about"),
-    ("habits", "office.html", "&& isDoubtful(place)", "&& false", "a quota under another word is asked after"),
+    ("habits", "office.html", "plans.set(head.join()", "plans.set(sheet.name", "a first row that was asked about"),
+    ("habits", "office.html", "isDoubtful(at) || others", "others", "numbers under another word are asked after"),
     ("refusals", "office.html", '[el("b", {}, what), then]', "[then]", "refusal 28 "),
-    ("mistakes", "office.html", "`Row ${row?.number ?? fault.record + 1} of", "`Row ${fault.record} of", "long.csv, the first row alone"),
+    ("mistakes", "office.html", "(size > room && found.at(-1).length)", "(false)", "long.csv, its rows"),
     ("drawn", "office.html", "const FEW = 20;", "const FEW = 200;", "folded"),
     ("drawn", "office.html", "Math.sign(order) * compare", "compare", "and back"),
     ("drawn", "office.html", '"A,generous\\n" : "") + text', '"" : "") + text', "by the aim 2"),
@@ -86,7 +87,7 @@ REPORTS = {
     "placements": ("Placements", "Student,Name,Project,Title,Supervisor,Choice"),
     "loads": ("Loads", "Supervisor,Project,Name or title,Placed,Quota"),
     "profile": ("Profile", "Choice,Students"),
-    "unplaced": ("Without a place", "Student,Name"),
+    "unplaced": ("Without a place", "Student,Name,Choices"),
     "room": ("Places left", "Project,Title,Supervisor,Project has,Supervisor has,Places left"),
     "lists": ("Lists", "Student,Name,Choices"),
 }
@@ -134,11 +135,11 @@ def ordinal(rank):
     return f"{rank}{({1: 'st', 2: 'nd', 3: 'rd'}).get(rank, 'th')}"
 
 
-OFFICE = ("first_round", "term", "habits", "hostile", "refusals", "mistakes", "drawn", "greatest")
-PARTS = (*OFFICE, "student", "roles", "keyboard", "phone", "supervisor")
+OFFICE = ("first_round", "term", "habits", "traps", "exports", "long", "acts", "further", "hostile", "refusals", "mistakes", "drawn", "greatest")
+PARTS = (*OFFICE, "student", "roles", "held", "keyboard", "phone", "supervisor")
 IN_FIREFOX = ("first_round", "habits", "drawn", "student")
 PAGES = ("office.html", "student.html", "supervisor.html", "check.html")
-SERVICE, WEB, DRIVER = free_port(), free_port(), free_port()
+SERVICE, WEB, REDIRECTED, DRIVER = (free_port() for _ in range(4))
 
 
 def sealed(page):
@@ -153,7 +154,7 @@ def sealed(page):
 
 def config(folder):
     """The whole file of nginx around page/nginx.conf."""
-    text = re.sub(r" *ssl_certificate.*\n", "", read("page", "nginx.conf")).replace("listen 443 ssl;", f"listen 127.0.0.1:{WEB};")
+    text = plain(WEB, REDIRECTED)
     for old, new in (
         ("127.0.0.1:8080", f"127.0.0.1:{SERVICE}"),
         ("/usr/share/spadesk", f"{folder}/page"),
@@ -167,9 +168,9 @@ def config(folder):
     return f"{main}http {{\ntypes {{ text/html html; }}\naccess_log {folder}/asked;\n{paths}{text}}}\n"
 
 
-def answer_to(method, path, user=KEEPER, body=None, **fields):
+def answer_to(method, path, user=KEEPER, body=None, port=WEB, **fields):
     """An answer of the web server."""
-    connection = http.client.HTTPConnection("127.0.0.1", WEB, timeout=60)
+    connection = http.client.HTTPConnection("127.0.0.1", port, timeout=60)
     fields["Authorization"] = "Basic " + base64.b64encode(user.encode()).decode()
     connection.request(method, path, body, fields)
     return connection.getresponse()
@@ -297,7 +298,8 @@ class Browser:
         return [it["message"] for it in self.send("POST", "/se/log", {"type": "browser"}) if "Failed to load resource" not in it["message"]]
 
 
-class Trial(People):
+class Trial(People, Sheets):
+    REDIRECTED = REDIRECTED
     answer_to, asked, ordinal, KEEPER = staticmethod(answer_to), staticmethod(asked), staticmethod(ordinal), KEEPER
 
     def __init__(self, program, folder, shots):
@@ -386,17 +388,6 @@ class Trial(People):
                 told.startswith(f"1 row of {name} is refused.") and f"{words[1]} {words[2]} Refusal {inner}, {words[0]}" in told,
             )
             self.check("its row", [cells[0] for cells in it.table(".wrong")], [str(row + 1)])
-
-    def refused_alone(self, name, content):
-        """The first refused row is told alone, in the words at the top."""
-        it = self.it
-        it.choose(self.file(name, content))
-        it.press("#send")
-        self.check(
-            f"{name}, the first row alone",
-            (it.text("#told").startswith(f"Row 2 of {name}: "), it.text(".wrong")),
-            (True, None),
-        )
 
     def profile(self, number):
         """The numbers of a round: its students, those who are placed, and how many at each rank."""
@@ -577,7 +568,8 @@ class Trial(People):
         it.run("const it = document.querySelector('#send'); it.click(); it.click()")
         it.rest()
         self.check("lists in a round, pressed twice", it.text("#state"), "Round 1 is open, greedy, with 20 lists.")
-        self.check("all came in", it.text("#told").startswith("All imported: supervisors.csv, 5 rows; projects.csv, 10 rows; "))
+        words = "All imported: supervisors.csv, 5 rows: 5 new; projects.csv, 10 rows: 10 new; "
+        self.check("all came in", it.text("#told").startswith(words))
         self.check("as no refusal", it.run("return document.querySelector('#told').className"), "")
         self.preview(1, 20)
         self.check("its aim", f"it takes one with {AIMS['greedy']}" in it.text("#doing"))
@@ -589,7 +581,8 @@ class Trial(People):
         self.check("not closed", it.text("#state").startswith("Round 1 is open"))
         it.press("#close-round")
         places = "20 of 20 students, 14 with the 1st choice, 4 with the 2nd choice, 2 with the 3rd choice"
-        words = "They keep their places in later rounds. As long as round 1 is the last, it can be reopened."
+        words = "Students and supervisors see it at once. They keep their places in later rounds. "
+        words += "As long as round 1 is the last, it can be reopened."
         self.check("the question", it.text("#sure p"), f"Close round 1? It would place {places}. {words}")
         it.press("#sure button.main")
         self.closed(1, "greedy")
@@ -630,7 +623,8 @@ class Trial(People):
         it.press("#drawing summary")
         self.check("the same picture", self.lines(), [14, 4, 2, 0, 45])
         it.press("#reopen")
-        words = "Reopen round 1? Its placements go, and its lists stay. Another closing may place other students."
+        words = "Reopen round 1? Its placements go, and its lists stay. Another closing may place other students. "
+        words += "Students may have seen their places."
         self.check("the question", it.text("#sure p"), words)
         it.press("#sure button.main")
         self.check("reopened", it.text("#state"), "Round 1 is open, greedy, with 20 lists.")
@@ -641,11 +635,8 @@ class Trial(People):
         told = "The service cannot be reached. Wait a moment and try again: "
         self.check("the service is down", it.text("#told").startswith(told))
         it.choose(FIRST[1])
-        self.check(
-            "a sheet that cannot be compared",
-            (it.text("#told").startswith("The service cannot be reached"), it.text("#chosen").endswith("students, 20 rows\nImport 1 file")),
-            (True, True),
-        )
+        self.check("a sheet that cannot be compared", it.text("#told").startswith("The service cannot be reached"))
+        self.check("it is shown", it.text("#chosen").endswith("students, 20 rows\nRead its columns otherwise\nImport 1 file"))
         self.serve("first_round.db")
         it.press("#retry")
         self.check("and up again", ("students, 20 rows: 20 as before" in it.text("#chosen"), it.text("#told")), (True, ""))
@@ -750,14 +741,16 @@ class Trial(People):
         supervisors = self.file("supervisors.csv", "code,name,quota\nL,Lee,2.0\nm,May,1\n")
         projects = self.file("projects.csv", "Titel;K\u00fcrzel;Pl\u00e4tze;Wer\nBridges;P1;2;L\nRails;P2;1;M\nSails;P3;0;M\n")
         students = self.file("students.csv", "email,Code,Name\na@x,S1,Ann\nb@x,S2,Bob\nc@x, s3,Cy\n")
-        it.choose(self.file("tutors.csv", "code,name,places\nK,Kim,2\n"))
+        it.choose(self.file("guests.csv", "code,name,places\nK,Kim,2\n"))
         self.check("a quota under another word is asked after", it.run("return document.querySelectorAll('.asked').length"), 1)
+        it.choose(self.file("guests.csv", "code,name,seats\nK,Kim,2\n"))
+        self.check("numbers under another word are asked after", it.run("return document.querySelectorAll('.asked').length"), 1)
         it.choose(supervisors, projects, students)
         self.check("columns that are passed over", "Passed over: the column email." in it.text("#chosen"))
-        it.pick(".asked select", "projects")
-        for key, at in (("code", 1), ("name", 0), ("supervisor", 3), ("quota", 2)):
-            it.pick(f".asked select[name={key}]", str(at))
-        it.press(".asked button")
+        it.pick(".asked [name=kind]", "projects")
+        self.check("what a column has is guessed by its words alone", self.picked(), ["name", "code", "quota", ""])
+        it.pick(".asked [name='3']", "supervisor")
+        it.press(".asked button.main")
         self.check("a first row that was asked about", "projects, 3 rows: 3 new" in it.text("#chosen"))
         mended = [["2", "quota", "2.0", "2"], ["3", "code", "m", "M"], ["4", "code", " s3", "S3"]]
         self.check("what is clear is shown", it.table("#chosen .mend"), mended)
@@ -783,15 +776,21 @@ class Trial(People):
         it.press("#asked button")
         it.run("document.querySelector('#keep').elements.quota.value = 0")
         it.press("#keep button")
-        self.check("whose lists a withdrawal hits", it.text("#sure p"), "Withdraw P2? It stands on 3 lists of the open round: S1, S2, S3.")
+        words = "Withdraw P2, Rails? 3 lists of the open round have it: S1, S2, S3. The round would place 2 students, and not 3. "
+        self.check("whose lists a withdrawal hits", it.text("#sure p"), f"{words}Tell these students, so that they can change their lists.")
         it.press("#sure button:not(.main)")
         self.check("not withdrawn", read("/projects/P2")["quota"], 1)
         it.choose(self.file("projects.csv", "code,name,supervisor,quota\nP2,Rails,M,0\n"))
-        self.check("and in a sheet", "Withdrawn, and on lists of the open round: P2 (S1, S2, S3)." in it.text("#chosen"))
+        words = "Fewer places where students of the open round have a choice: P2: quota 1, now 0 (S1, S2, S3)."
+        self.check("and in a sheet", words in it.text("#chosen"))
         rest = self.file("rest.csv", "code,name,supervisor,quota\nP8,Eight,K,1\nP9,Nine,L,1\n")
         it.choose(self.file("more.csv", "code,name,quota\nK,,1\nN,Ned,1\n"), rest)
         it.press("#send")
         self.check("what hangs on a row that is left out", "What is left out is named in 1 row of the other files" in it.text(".wrong"))
+
+    def picked(self):
+        """What each column of the sheet that is asked about has, as it is picked."""
+        return self.it.run("return [...document.querySelectorAll('.asked td select')].map(it => it.value)")
 
     def sides(self):
         """Both aims side by side, for the open round as it is now."""
@@ -861,6 +860,8 @@ class Trial(People):
             self.file("students.csv", text.getvalue()),
         )
         it.press("#send")
+        if it.text(".doubt"):
+            it.press("#sure .main")
         self.open()
         it.choose(
             self.file("lists.csv", "student,choices\n" + "".join(f"S{at},{'U' if at == 1 else 'TOSTRING'}\n" for at in range(len(labels))))
@@ -884,7 +885,7 @@ class Trial(People):
             ["S3", "'=1+1"] in [row[:2] for row in csv.reader(io.StringIO(self.saved("placements-1.csv").decode("utf-8-sig"), newline=""))],
         )
         it.pick("#kind", "unplaced")
-        self.check("in those without a place", it.table(), [rows[1]])
+        self.check("in those without a place", it.table(), [[*rows[1], "U"]])
         it.write("#code", "S0")
         it.press("#asked button")
         it.run(
@@ -955,11 +956,8 @@ class Trial(People):
         self.check("came in", asked("GET", "/students/S4")[1], '{"list":null,"name":"Jörg, Müller","placed":null}')
         it.choose(self.file("large.csv", "code,name\n" + "S1,Ann\n" * 10000), self.file("other.csv", "a,b\n1,2\n"))
         told = it.text("#chosen")
-        self.check(
-            "too large, and no sheet",
-            ("more than 65,536 bytes" in told, "has another first row than" in told, it.run("return !document.querySelector('#send')")),
-            (True, True, True),
-        )
+        seen = ["longer than one import" in told, "has other words in its first row" in told, bool(it.text("#send"))]
+        self.check("too large, and no sheet", seen, [True, True, False])
         self.open()
         it.run(
             "const real = fetch, more = { method: 'PUT', body: '{\"choices\":[\"P\"]}' };"
@@ -1132,9 +1130,11 @@ class Trial(People):
             [(2, 9), (98, 12), (99, 12)],
             ["x", "V95", "V96"],
         )
-        # As long as it may be: there is no room for the last row, and the first wrong row alone is named.
+        # As long as it may be: there is no room for the last row, so that it is asked after in two parts.
         long = "code,name\nS01,\nS02,\n" + "S03,Clara\n" * 6550
-        self.refused_alone("long.csv", long + "S03," + "C" * (65536 - len(long) - 5) + "\n")
+        it.choose(self.file("long.csv", long + "S03," + "C" * (65536 - len(long) - 5) + "\n"))
+        it.press("#send")
+        self.check("long.csv, its rows", [row[0] for row in it.table(".wrong")], ["2", "3"])
         self.looked(
             "students",
             "quotes.csv",
@@ -1271,13 +1271,16 @@ class Trial(People):
             (401, "You are not signed in any more. Load this page again."),
             (403, "You may not do this here."),
             (413, "The file has more than 65,536 bytes."),
-            (504, "what was sent may still be done. Load this page again and look before you send it again."),
+            (504, "The service did not answer in time. Nothing was changed."),
         ):
             self.it.run("const status = arguments[0]; window.fetch = () => Promise.resolve(new Response('', { status }))", status)
             self.it.write("#code", "S1")
             self.it.press("#asked button")
             title = "Refusal 4, TooLarge" if status == 413 else f"The web server answers {status}."
             self.check(f"status {status}", (title in self.it.text("#told"), words in self.it.text("#told")), (True, True))
+        self.it.run("return ask('PUT', '/students/S1').catch(tellRefusal)")
+        words = "what was sent may still be done. Load this page again and look before you send it again."
+        self.check("no answer to a change", words in self.it.text("#told"))
 
     def named(self):
         """What a reader of the screen is told: each field and button has a name."""
@@ -1350,11 +1353,12 @@ def main(*words):
         try:
             running.append(started(DRIVER, "chromedriver", f"--port={DRIVER}", stdout=subprocess.DEVNULL))
             web()
+            parts = words[words.index("--only") + 1].split(",") if "--only" in words else PARTS
             if "--mutants" in words:
-                trial.mutants(sealed, web, OFFICE_MUTANTS + MUTANTS)
+                trial.mutants(sealed, web, [it for it in OFFICE_MUTANTS + SHEET_MUTANTS + MUTANTS if it[0] in parts])
             else:
                 if "--in-firefox" not in words:
-                    trial.all(words[words.index("--only") + 1].split(",") if "--only" in words else PARTS)
+                    trial.all(parts)
                 if "--only" not in words and shutil.which("firefox-esr"):
                     trial.all(IN_FIREFOX, is_firefox=True)
         finally:

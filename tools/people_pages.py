@@ -269,10 +269,52 @@ class People:
         for user, told in ((SUPERVISOR, "HOPPER"), ("HOPPER:wrong", "-")):
             answer = self.answer_to("GET", "/supervisor/me", user)
             self.check(f"the code that {user} is told", answer.getheader("Spadesk-Code"), told)
+        for path in ("/student/nothing", "/student"):
+            self.check(f"and at {path}", self.answer_to("GET", path, "S02:wrong").getheader("Spadesk-Code"), "-")
+        self.addresses()
         self.it.go("/student/", "s02:s02")
         self.check("small letters, a student", "Your login is not matched with a code." in self.it.text("#me"))
         self.it.go("/supervisor/", "hopper:hopper")
         self.check("small letters, a supervisor", "Your login is not matched with a code." in self.it.text("#state"))
+
+    def addresses(self):
+        """Addresses as people type them, and how often a password may be tried."""
+        at = lambda *words, **how: (lambda it: (it.status, it.getheader("Location")))(self.answer_to(*words, **how))
+        self.check("without the slash", [at("GET", f"/{role}") for role in ("student", "supervisor")], [(301, "/student/"), (301, "/supervisor/")])
+        self.check("without https", at("GET", "/student/?x", port=self.REDIRECTED), (301, "https://127.0.0.1/student/?x"))
+        tries = [self.asked("GET", "/student/me", "tries:wrong")[0] for _ in range(330)]
+        self.check("tries of a password", (tries[0], tries[-1]), (401, 429))
+        self.check("and another account", self.asked("GET", "/student/me", STUDENT)[0], 200)
+
+    def held(self):
+        """What is held back while held.txt is there, and seen once it is gone."""
+        it, words = self.it, "The office looks at the result. Come back on Friday."
+        self.school()
+        self.does(("POST", "/rounds", None))
+        it.go("/student/", STUDENT)
+        it.press("#add-BUGS")
+        self.beside("held.txt", f"{words}\n")
+        it.press("#save")
+        self.check("no list is taken", (it.text("#told"), self.listed()), (words, None))
+        self.does(("PUT", "/lists/S02", {"choices": ["BUGS"]}))
+        it.go()
+        it.press("#close-round")
+        self.check("the office is told", "see it once whoever looks after the web server takes held.txt away." in it.text("#sure p"))
+        it.press("#sure .main")
+        it.go("/student/", STUDENT)
+        self.check("a student meanwhile", it.text("#me"), words)
+        it.go("/supervisor/", SUPERVISOR)
+        self.check("a supervisor meanwhile", (it.text("#state"), it.text("#tables")), (words, ""))
+        for user, paths in ((STUDENT, ("me", "list", "rounds/1", "reports/offers/1")), (SUPERVISOR, ("me", "rounds/1", "reports/placements/1"))):
+            role = "student" if user == STUDENT else "supervisor"
+            self.check(f"what a {role} reaches", {self.asked("GET", f"/{role}/{path}", user)[0] for path in paths}, {503})
+        it.go()
+        it.press("#reopen")
+        self.check("reopened unseen", "may have seen" in it.text("#sure p"), False)
+        self.keyed("Escape")
+        self.beside("held.txt")
+        it.go("/student/", STUDENT)
+        self.check("published", "You have “A history of bugs”" in it.text("#me"))
 
     def keyboard(self):
         """A student without a mouse, on a line with a latency of 100 ms: each act keeps the focus, is told, and takes three requests."""
@@ -392,9 +434,17 @@ class People:
         self.check("the button is under the title", it.run(under))
         bar = """const it = document.querySelector('#save').getBoundingClientRect();
           return it.top > innerHeight / 2 && it.bottom <= innerHeight"""
+        it.go("/student/", STUDENT)
+        top = it.run("return document.querySelector('#h-mine').getBoundingClientRect().top")
+        self.check("the list is on the first screen", top < 700)
         self.check("the bar is at the foot", (it.run(bar), it.text("#state")), (True, "5 chosen, handed in"))
         self.shot("phone")
         it.chrome("Emulation.clearDeviceMetricsOverride")
+        it.write("#filter", "brucken")
+        self.check("found without its accent", len(it.run(CARDS)), 2)
+        it.write("#filter", "zeppelin")
+        self.check("nothing found", it.text("#none"), "No project has “zeppelin” in its title or in its supervisor’s name.")
+        it.run("const it = document.querySelector('#filter'); it.value = ''; it.dispatchEvent(new Event('input'))")
         it.press("#off-BR-1")
         it.press("#save")
         words = "Your list is handed in: 4 choices, of which 1 can’t give a place. You may change it while the round is open."
@@ -463,6 +513,15 @@ class People:
             self.check(f"who comes in round {number}", [shown[0], *sorted(shown[1:])], [head, *sorted(mine)])
         self.check("somebody comes in both, and a place is left", [len(tables[0]), len(tables[1]) > 3, whole], [2, True, 1])
         self.check("for each round a table", len(tables), 3)
+        self.check("without names", "Late" in it.text("#tables"), False)
+        self.beside("names.csv", 'code,name\nS90,"Late, ""Al"""\nS02,Ben\n')
+        it.go("/supervisor/", SUPERVISOR)
+        self.check("with the names that the school puts there", it.run(TABLES)[0][1][0], 'Late, "Al" (S90)')
+        self.check("for no student", self.asked("GET", "/student/names.csv", STUDENT)[0], 404)
+        names = it.run("return [...document.querySelectorAll('table')].map(it => it.getAttribute('aria-label'))")
+        self.check("the names of the tables", names, [table[0] for table in tables])
+        self.beside("names.csv")
+        it.go("/supervisor/", SUPERVISOR)
         self.tabbed("Print")
         self.fits("a supervisor's page")
         self.named()
@@ -538,7 +597,17 @@ MUTANTS = [
     ("supervisor", "supervisor.html", ".paper { display: inline; }", "", "on paper: name, round and date"),
     ("supervisor", "supervisor.html", "overflow-wrap: anywhere", "overflow-wrap: normal", "a supervisor's page, 360 px wide"),
     ("supervisor", "nginx.conf", "/supervisors/$own;", "/supervisors/TURING;", "whose it is"),
-    ("roles", "nginx.conf", '401     "-";', "", "the code that HOPPER:wrong is told"),
+    ("roles", "nginx.conf", 'default "-";                                  #', "default $own; #", "the code that HOPPER:wrong is told"),
+    ("roles", "nginx.conf", "location = /student { return 301 /student/; }", "", "without the slash"),
+    ("roles", "nginx.conf", "return 301 https://$host$request_uri;", "return 301 https://$host/;", "without https"),
+    ("roles", "nginx.conf", "limit_req zone=own_tries", "# limit_req zone=own_tries", "tries of a password"),
+    ("held", "nginx.conf", "|rounds|reports)\\b", "|rounds)\\b", "what a student reaches"),
+    ("held", "student.html", 'isHeld ? await readIfThere("held.txt") :', 'isHeld ? "" :', "a student meanwhile"),
+    ("held", "office.html", '(await held()) === undefined ? "Students', '(await held()) !== 0 ? "Students', "the office is told"),
+    ("phone", "student.html", 'isWide ? { open: "" } : {}', '{ open: "" }', "the list is on the first screen"),
+    ("phone", "student.html", '.normalize("NFKD")', '.normalize("NFC")', "found without its accent"),
+    ("phone", "student.html", "[...cards.values()].every(", "[...cards.values()].some(", "nothing beside the pages"),
+    ("supervisor", "supervisor.html", ".replaceAll('\"\"', '\"')", "", "with the names that the school puts there"),
     ("roles", "nginx.conf", "|placements))", "|placements|unplaced))", f"GET /supervisor/reports/unplaced/1 as {SUPERVISOR}"),
     ("roles", "nginx.conf", "|reports/offers)", "|reports/offers|reports/missing)", f"GET /student/reports/missing/1 as {STUDENT}"),
 ]

@@ -1,14 +1,15 @@
 #!/usr/bin/env python3
-"""Runs every command of docs/SERVING.md on a bare Debian, and compares what is printed.
+"""Runs every command of docs/SERVING.md on a bare Debian with systemd, and compares what is printed.
 
-tools/serving.py PACKAGE ROOT     as root; needs util-linux and iproute2, and for one step chromium and chromium-driver
+tools/serving.py PACKAGE ROOT     as root; needs systemd-container and util-linux, and for one step chromium and chromium-driver
 
 PACKAGE is what tools/release made. ROOT is a folder as `debootstrap --variant=minbase bookworm ROOT` leaves it; it stays as it is, under a
-layer that goes at the end. First it gets slapd, the directory of a school with three people. A block of `sh` must end with status 0; a block of `console` prints what stands there. What has the word apt is
-run in the network of the machine, and all else in one of its own, so that no port is taken here. systemd does not run there: SYSTEMCTL does
-what some lines of a unit say, its filters among them. The files of the package are compared with their sums. At the end the proof of the
-round that was closed is given to check.html in a browser, the units are verified, a file of edition 1 is served, and the package is purged,
-which leaves the data.
+layer that goes at the end. The layer gets systemd and slapd, the directory of a school with three people, and is booted as a machine of
+its own by systemd-nspawn. A block of `sh` must end with status 0; a block of `console` prints what stands there. What has the word apt is
+run in the network of this machine, and all else in one of its own, so that no port is taken here. The files of the package are compared
+with their sums. At the end the proof of the round that was closed is given to check.html in a browser. Then the units are verified, the
+machine is booted again, a file of edition 1 is served, and one that may not be read is given up. The package is purged, which leaves the
+data, and nginx running.
 """
 import os
 import re
@@ -22,89 +23,11 @@ from nginx import started
 from office import FIRST_EDITION, read, written
 from page import DRIVER, Browser
 
-SYSTEMCTL = r'''#!/usr/bin/python3
-import ctypes, functools, os, re, signal, socket, subprocess, sys, time
-
-def lines(name):
-    with open(f"/lib/systemd/system/{name}.service") as file:
-        return re.findall(r"^(\w+)=(.*)$", file.read(), re.M)
-
-def unit(name):
-    return {**dict(lines(name)), "Name": name}
-
-def begun(it, command, said=os.devnull):
-    user = ["setpriv", "--reuid", it["User"], "--regid", it["User"], "--clear-groups", "--no-new-privs", "--bounding-set=-all"]
-    os.umask(int(it["UMask"], 8))
-    with open(said, "w") as told:
-        how = dict(cwd=it["WorkingDirectory"], stdin=subprocess.DEVNULL, stdout=told, stderr=subprocess.STDOUT)
-        return subprocess.Popen([*user, sys.argv[0], "filtered", it["Name"], *command.lstrip("-").split()], start_new_session=True, **how)
-
-@functools.cache
-def calls(group):
-    """The calls of the system of a group, or the one call that it is."""
-    if not group.startswith("@"):
-        return {group}
-    told = subprocess.run(["systemd-analyze", "syscall-filter", group], stdout=subprocess.PIPE, text=True, check=True).stdout
-    words = [line.strip() for line in told.splitlines()[1:]]
-    return set().union(*(calls(word) for word in words if word and not word.startswith("#")))
-
-def filtered(name, *command):
-    """Runs a command that is killed at a call that the filters of the unit leave out."""
-    left = {"execve"}
-    for key, groups in lines(name):
-        if key == "SystemCallFilter":
-            found = set().union(*map(calls, groups.lstrip("~").split()))
-            left = left - found if groups.startswith("~") else left | found
-    library = ctypes.CDLL("libseccomp.so.2")
-    library.seccomp_init.restype = ctypes.c_void_p
-    rules = ctypes.c_void_p(library.seccomp_init(0x80000000))
-    for number in map(library.seccomp_syscall_resolve_name, (it.encode() for it in left)):
-        if number >= 0:
-            library.seccomp_rule_add(rules, ctypes.c_uint32(0x7FFF0000), number, 0)
-    if library.seccomp_load(rules):
-        sys.exit("no filter")
-    os.execv(command[0], command)
-
-def stop(name):
-    if os.path.exists(f"/run/{name}.pid"):
-        with open(f"/run/{name}.pid") as file:
-            pid = int(file.read())
-        os.remove(f"/run/{name}.pid")
-        if os.path.exists(f"/proc/{pid}"):
-            os.kill(pid, signal.SIGTERM)
-        while os.path.exists(f"/proc/{pid}") and " Z " not in open(f"/proc/{pid}/stat").read():
-            time.sleep(0.05)
-        begun(unit(name), unit(name)["ExecStopPost"]).wait()
-
-def start(name):
-    it = unit(name)
-    if "ExecStartPre" in it:
-        begun(it, it["ExecStartPre"], f"/run/{name}.said").wait()
-    process = begun(it, it["ExecStart"])
-    if it.get("Type") == "oneshot":
-        sys.exit(process.wait())
-    with open(f"/run/{name}.pid", "w") as file:
-        file.write(str(process.pid))
-    for _ in range(200):
-        time.sleep(0.05)
-        if socket.socket().connect_ex(("127.0.0.1", int(it["ExecStart"].split()[-2]))) == 0:
-            sys.exit(process.poll() or 0)
-    sys.exit(1)
-
-if sys.argv[1] == "filtered":
-    filtered(*sys.argv[2:])
-verb, *names = [word for word in sys.argv[1:] if word != "--now"]
-if names in (["nginx"], ["apache2"]):
-    status = subprocess.run(["apache2ctl", verb] if names == ["apache2"] else ["nginx", *(["-s", verb] if verb == "reload" else [])]).returncode
-    time.sleep(2)  # the old workers answer for a moment more
-    sys.exit(status)
-for name in names:
-    if not name.endswith(".timer"):
-        stop(name) if verb == "stop" else start(name)
-'''
 HOSTS = "127.0.0.1 localhost office.school.example ldap.school.example\n"
 # The directory of a school, which is there before the page begins.
-DIRECTORY = ["apt-get update -qq && apt-get install -y -qq slapd ca-certificates openssl > /dev/null 2>&1", r"""set -e
+NEEDED = "apt-get update -qq && apt-get install -y -qq systemd-sysv dbus slapd ca-certificates openssl > /dev/null 2>&1"
+DIRECTORY = r"""set -e
+systemctl -q disable --now slapd
 cd /etc/ldap
 openssl req -x509 -newkey rsa:2048 -nodes -days 30 -subj /CN=ldap.school.example -addext subjectAltName=DNS:ldap.school.example \
   -keyout trial.key -out trial.pem 2> /dev/null
@@ -141,25 +64,47 @@ g.hopper@uni.example tall-tree staff
 k.keeper@uni.example old-bridge dissertations
 END
 } | slapadd -q -f trial.conf
-slapd -f trial.conf -h ldaps://127.0.0.1
-"""]
+printf '[Service]\nType=forking\nExecStart=/usr/sbin/slapd -f /etc/ldap/trial.conf -h ldaps://127.0.0.1\n[Install]\nWantedBy=multi-user.target\n' \
+  > /etc/systemd/system/directory.service
+systemctl -q enable --now directory
+"""
+# prints each link of the installed pages that goes nowhere
+LINKS = r'''cd /usr/share/doc/spadesk && python3 - <<'END'
+import os, pathlib, re
+for page in sorted(pathlib.Path(".").rglob("*.md")):
+    for link in re.findall(r"\]\(([^)\s:#]+)", page.read_text()):
+        if not os.path.exists(page.parent / link):
+            print(page, link)
+END'''
 MARK = "and the next command"
 # what is tried after the first block, and after the page, and what it prints
-INSTALLED = [("(cd / && sha256sum --quiet -c usr/share/doc/spadesk/SHA256SUMS)", "")]
+INSTALLED = [("(cd / && sha256sum --quiet -c usr/share/doc/spadesk/SHA256SUMS)", ""), (LINKS, "")]
 BEHIND = [
     ("systemd-analyze verify /lib/systemd/system/spadesk*.service /lib/systemd/system/spadesk-copy.timer", ""),
     ("grep -c ^spadesk: /etc/passwd; stat -c '%A %U' /var/lib/spadesk", "1\ndrwx------ spadesk\n"),
+]
+SIGNED_IN = "curl -u k.keeper@uni.example:old-bridge https://office.school.example"
+# what is tried once the machine was booted again, and what it prints
+BOOTED = [
+    ("systemctl is-active spadesk spadesk-copy.timer nginx", "active\nactive\nactive\n"),
+    (f"{SIGNED_IN}/preview", '{"fault":"NoRoundOpen","number":19}\n'),
     (
         "systemctl stop spadesk; cp -p /var/lib/spadesk/2027/school.db* /var/lib/spadesk; "
-        f"python3 -c \"import sqlite3; sqlite3.connect('/var/lib/spadesk/school.db').executescript('''{FIRST_EDITION}''')\"; "
-        "systemctl start spadesk; curl -u k.keeper@uni.example:old-bridge https://office.school.example/reports/placements/1",
+        f"python3 -c \"import sqlite3; sqlite3.connect('/var/lib/spadesk/school.db').executescript('\'\'\'{FIRST_EDITION}\'\'\')\"; "
+        f"systemctl start spadesk; {SIGNED_IN}/reports/placements/1",
         "S01              CHESS             1\n",
     ),
     (
-        "systemctl stop spadesk; chown root: /var/lib/spadesk/school.db; systemctl start spadesk; cat /run/spadesk.said",
+        "systemctl stop spadesk; chown root: /var/lib/spadesk/school.db; systemctl start spadesk; sleep 2; "
+        "journalctl -q -u spadesk -o cat | grep -m 1 'may not'",
         "/var/lib/spadesk/school.db: spadesk may not read it; it is root's, -rw-------\n",
     ),
-    ("systemctl stop spadesk; dpkg --purge spadesk > purged.txt 2>&1; ls /var/lib/spadesk", "2027\ncopies\nschool.db\nschool.db-wal\n"),
+    (
+        "until systemctl -q is-failed spadesk; do sleep 1; done; systemctl show -p Result,NRestarts spadesk",
+        "Result=exit-code\nNRestarts=30\n",
+    ),
+    ("apt purge -y spadesk > purged.txt 2>&1; ls /var/lib/spadesk", "2027\ncopies\nschool.db\nschool.db-wal\n"),
+    ("systemctl restart nginx; systemctl is-active nginx; ls /etc/nginx/sites-enabled", "active\ndefault\n"),
 ]
 
 
@@ -180,29 +125,45 @@ def blocks(text):
 
 
 class Machine:
-    """A bare Debian in a second layer over a folder, with a network of its own beside that of the machine."""
+    """A bare Debian in a second layer over a folder, booted by systemd, with a network of its own beside that of this machine."""
 
-    def __init__(self, package, root, room, net):
-        self.at, self.net = f"{room}/root", int(net)
+    ENTERED = {"HOME": "/root", "LC_ALL": "C.UTF-8", "PATH": "/usr/sbin:/usr/bin:/sbin:/bin", "DEBIAN_FRONTEND": "noninteractive"}
+
+    def __init__(self, package, root, room):
+        self.at, self.booted = f"{room}/root", None
         layers = f"lowerdir={root},upperdir={room}/upper,workdir={room}/work"
         subprocess.run(["mount", "-t", "overlay", "overlay", "-o", layers, self.at], check=True)
-        subprocess.run(["mount", "-t", "proc", "proc", f"{self.at}/proc"], check=True)
-        subprocess.run(["ip", "link", "set", "lo", "up"], check=True)
         shutil.copy("/etc/resolv.conf", f"{self.at}/etc/resolv.conf")
         shutil.copy(package, f"{self.at}/root")
-        written(HOSTS, f"{self.at}/etc/hosts")
-        for name, text in (("usr/sbin/policy-rc.d", "#!/bin/sh\nexit 101\n"), ("usr/local/sbin/systemctl", SYSTEMCTL)):
-            os.chmod(written(text, f"{self.at}/{name}"), 0o755)
+        subprocess.run(["chroot", self.at, "/bin/sh", "-c", NEEDED], check=True, env=self.ENTERED)
+        self.boot()
+
+    def boot(self):
+        """Boots it, or ends it and boots it again, and waits until all units have started."""
+        self.end()
+        words = ["systemd-nspawn", "-q", "-b", "-D", self.at, "--register=no", "--keep-unit", "--private-network", "--resolv-conf=off"]
+        how = {"stdin": subprocess.DEVNULL, "stdout": subprocess.DEVNULL, "stderr": subprocess.DEVNULL}
+        self.booted = subprocess.Popen(words, **how)
+        for _ in range(120):
+            time.sleep(1)
+            children = subprocess.run(["pgrep", "-P", str(self.booted.pid)], stdout=subprocess.PIPE, text=True).stdout.split()
+            self.leader = children[0] if children else None
+            if self.leader and self.run("systemctl is-system-running")[1].strip() in ("running", "degraded"):
+                written(HOSTS, f"{self.at}/etc/hosts")
+                return
+        sys.exit("the machine does not boot")
+
+    def end(self):
+        if self.booted:
+            self.run("systemctl poweroff")
+            self.booted.wait(timeout=120)
 
     def run(self, script):
         """Status and output of a script of a shell."""
-        words = ["chroot", self.at, "/bin/bash", "-c", f"cd /root\n{script}"]
-        if re.search(r"\bapt\b", script):
-            words = ["nsenter", f"--net=/proc/self/fd/{self.net}", *words]
-        env = {"HOME": "/root", "LC_ALL": "C.UTF-8", "PATH": "/usr/local/sbin:/usr/sbin:/usr/bin:/sbin:/bin"}
-        env["DEBIAN_FRONTEND"] = "noninteractive"
-        how = {"stdin": subprocess.DEVNULL, "stdout": subprocess.PIPE, "stderr": subprocess.STDOUT, "pass_fds": [self.net]}
-        ran = subprocess.run(words, env=env, timeout=1200, **how)
+        parts = ["--mount", "--uts", "--ipc", "--pid", *([] if re.search(r"\bapt\b", script) else ["--net"])]
+        words = ["nsenter", "--target", self.leader, *parts, "/bin/bash", "-c", f"cd /root\n{script}"]
+        how = {"stdin": subprocess.DEVNULL, "stdout": subprocess.PIPE, "stderr": subprocess.STDOUT}
+        ran = subprocess.run(words, env=self.ENTERED, timeout=1200, **how)
         return ran.returncode, ran.stdout.decode()
 
 
@@ -257,14 +218,17 @@ def steps(machine):
     else:
         print("there is no chromium here: check.html was not tried")
     yield from ran(machine, "console", BEHIND)
+    machine.boot()
+    for step in BOOTED:  # one after another: what has the word apt has another network
+        yield from ran(machine, "console", [step])
+    machine.end()
 
 
 def inside(*where):
     machine, count, failed = Machine(*where), 0, 0
-    for script in DIRECTORY:
-        status, out = machine.run(script)
-        if status:
-            sys.exit(f"{out}the directory of the trial does not run")
+    status, out = machine.run(DIRECTORY)
+    if status:
+        sys.exit(f"{out}the directory of the trial does not run")
     begun = time.time()
     for command, wanted, told in steps(machine):
         count += 1
@@ -279,10 +243,8 @@ def main(package, root):
     with tempfile.TemporaryDirectory() as room:
         for name in ("upper", "work", "root"):
             os.mkdir(f"{room}/{name}")
-        net = os.open("/proc/self/ns/net", os.O_RDONLY)
-        words = ["unshare", "--mount", "--net", "--pid", "--fork", "--kill-child", sys.executable, os.path.abspath(__file__), "--inside"]
-        where = [os.path.abspath(package), os.path.abspath(root), room, str(net)]
-        sys.exit(subprocess.run([*words, *where], pass_fds=[net]).returncode)
+        words = ["unshare", "--mount", sys.executable, os.path.abspath(__file__), "--inside"]
+        sys.exit(subprocess.run([*words, os.path.abspath(package), os.path.abspath(root), room]).returncode)
 
 
 if __name__ == "__main__":
