@@ -20,6 +20,12 @@ from office import serving, written
 GET = b"GET /rounds/1 HTTP/1.1\r\n\r\n"
 SHUT, RESET = "shut", "reset"
 
+
+def put(number):
+    body = b'{"name":"Ann"}'
+    return b"PUT /students/S%d HTTP/1.1\r\nContent-Length: %d\r\n\r\n%s" % (number, len(body), body)
+
+
 # What a client does: it sends bytes; a whole number is how many answers it reads, a fraction how many seconds it lets pass; it says that no
 # more comes, or breaks its connection off. Then what is printed of it.
 CLIENTS = [
@@ -29,6 +35,8 @@ CLIENTS = [
     ("stays open after a hundred messages", [GET * 101, 100], "100 answers, hundred"),
     ("stays open after a bad head", [b"GET / HTTP/1.0\r\n\r\n", 1], "1 answers, bad-head"),
     ("stays open after a body that is too large", [b"PUT / HTTP/1.1\r\nContent-Length: 65537\r\n\r\n", 1], "1 answers, too-large"),
+    ("sends 150 puts at once and reads late", [b"".join(map(put, range(150))), 0.5, 100], "100 answers, hundred"),
+    ("has bytes after a bad head and reads late", [put(1) + b"GET / HTTP/1.0\r\n\r\n" + b"x" * 60000, 0.5, 2], "2 answers, bad-head"),
     ("breaks its connection off", [GET[:9], 0.3, RESET], "read fault"),
     ("comes after all these", [GET, 1, SHUT], "1 answers, closed"),
 ]

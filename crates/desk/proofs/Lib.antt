@@ -5,5 +5,6 @@ mod NoStorage
 pub mod SavedRows
 mod Runs
 mod AfterCrash
+mod Reached
 mod SessionAfter
 mod Asked

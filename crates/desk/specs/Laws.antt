@@ -1,7 +1,7 @@
 -- What is opened after a crash.
-use Rattle.std.specs.Prelude.{◌≡◌, ◌⊎◌, IsTrue, List, [], ◌∷◌, Result}
+use Rattle.std.specs.Prelude.{◌≡◌, ◌⊎◌, false, IsTrue, IsOk, List, [], ◌∷◌, Result}
 use Rattle.sqlite.specs.Effect.{Database, IsDatabase}
-use Rattle.sqlite.specs.State.{HasCleanDisk, Survives}
+use Rattle.sqlite.specs.State.{HasCleanDisk, IsLive, Survives}
 use Rattle.sqlite.specs.Held.{state}
 use Rattle.sqlite_trees.specs.declared.store.Store.{Ghosts}
 use Rattle.rolls.specs.declared.refusal.Refusal.{Refusal}
@@ -9,10 +9,15 @@ use Rattle.rolls.specs.declared.request.Reply.{Reply}
 use Rattle.rolls.specs.declared.request.Request.{Request}
 use Rattle.rolls.specs.State.{State}
 use Rattle.rolls.specs.Fit.{IsFit}
+use Rattle.rolls.specs.Reads.{changes_nothing}
+use Rattle.rolls.specs.Run.{Step}
+use Rattle.outside.specs.Layers.{layers}
 use Rattle.tables.specs.Steps.{MayRecoverTo}
+use Rattle.store.specs.Reading.{IsDamaged}
 use Rattle.store.specs.Tables.{LeavesAlone, Opens, StandsFor}
 use Rattle.desk.specs.DeskState.{DeskState}
-use Rattle.desk.specs.Keeping.{Begins, CarriesOut, StandsForOne}
+use Rattle.desk.specs.Keeping.{Begins, CarriesOut, Keeps, StandsForOne}
+use Rattle.desk.specs.Saved.{IsSaved}
 
 -- one of these requests, carried out, makes of the office this one
 abbrev pub OneMakes : State → List Request → State → Type 0
@@ -63,3 +68,37 @@ module _ {S : Type 0} (ghosts : Ghosts S) where
   RunIsWhole = (old new : DeskState S) (refused requests : List Request) (answers : List (Result Reply Refusal)) → LeavesOneOf refused old
       → Survives (state ghosts old.store) (state ghosts new.store) (MayRecoverTo (λ _. StandsForOne (Begins old.office requests answers)) (state ghosts old.store))
       → (office : State) → IsOpenedAfter new office → IsOneOf old.office refused office ⊎ Begins old.office requests answers office
+
+  -- A request was asked at a desk and got this answer. The tables stand for the fit office after it.
+  pub record IsAsked (before : DeskState S) (request : Request) (answer : Result Reply Refusal) (after : DeskState S) : Type 0 where
+    pub step : Step layers before.office request answer after.office
+    pub saved : IsSaved before.office request answer (state ghosts before.store) (state ghosts after.store)
+    pub stands : Keeps (state ghosts after.store) after.office
+    pub live : IsLive (state ghosts after.store)
+    pub fit : IsFit after.office
+
+  -- What is pending after a request is what a crash may still carry out. After a change that was answered nothing is; after any other
+  -- request, which leaves the office as it was, that request and what was pending before it.
+  abbrev pub Pends : State → Request → Result Reply Refusal → State → List Request → List Request → Type 0
+  Pends office request answer next before after =
+      ((changes_nothing office request ≡ false) × IsOk answer × (after ≡ [])) ⊎ ((next ≡ office) × (after ≡ request ∷ before))
+
+  -- from a desk at rest on these requests were asked, the last one first, with these answers; so these are pending
+  abbrev pub IsReached : List Request → List (Result Reply Refusal) → List Request → DeskState S → Type 0
+  IsReached [] [] pending desk = (pending ≡ []) × IsAtRest desk
+  IsReached (request ∷ requests) (answer ∷ answers) pending desk =
+      (before : DeskState S) × (others : List Request) × IsReached requests answers others before × IsAsked before request answer desk
+      × Pends before.office request answer desk.office others pending
+  IsReached [] (answer ∷ answers) pending desk = ⊥
+  IsReached (request ∷ requests) [] pending desk = ⊥
+
+  -- after a crash then the office is opened that all answered requests left, or one that a pending request makes of it
+  abbrev pub AnswersStay : Type 0
+  AnswersStay = (requests : List Request) (answers : List (Result Reply Refusal)) (pending : List Request) (desk : DeskState S)
+      → IsReached requests answers pending desk → LeavesOneOf pending desk
+
+  -- and the database that is found is not damaged, so it is not refused as such
+  abbrev pub IsFoundWhole : Type 0
+  IsFoundWhole = (requests : List Request) (answers : List (Result Reply Refusal)) (pending : List Request) (desk : DeskState S)
+      → IsReached requests answers pending desk → HasCleanDisk (state ghosts desk.store) → (found : Database) → IsDatabase found
+      → (state ghosts desk.store).may_leave found.trees → IsDamaged found → ⊥

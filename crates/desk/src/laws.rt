@@ -1,6 +1,6 @@
 //! Laws that the words of the contracts keep: functions with nothing to do, whose contracts are the laws.
 
-ghost use Rattle.desk.specs.Laws.{AskIsWhole, RestIsKept, RunIsWhole};
+ghost use Rattle.desk.specs.Laws.{AnswersStay, AskIsWhole, IsFoundWhole, RestIsKept, RunIsWhole};
 
 use sqlite::Alter;
 
@@ -8,12 +8,15 @@ use sqlite::Alter;
 /// the next request leaves its office. A crash after such a desk was asked one request, or a list of them, leaves the office
 /// before, or one that the request makes of it, or some first requests of the list and one more: never a part of a change. After
 /// a change that was refused, since the database failed, it may leave the office with that change; so the law goes on over any
-/// number of refused requests. Which first requests is not said here; that a change which was answered stays is said of each
-/// request (`Desk::ask`, alone).
+/// number of refused requests. Over requests that were asked one after another every change that was answered stays: the office is
+/// opened that they left, or one that a request makes of it which was asked since the last answered change. And what is found is
+/// not damaged.
 pub fn crash_law<S: Alter>()
     ensures rest { RestIsKept S.Store }
     ensures ask { AskIsWhole S.Store }
     ensures run { RunIsWhole S.Store }
+    ensures answered { AnswersStay S.Store }
+    ensures whole { IsFoundWhole S.Store }
 {
     store::opening_law();
 }

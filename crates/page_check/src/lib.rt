@@ -5,7 +5,7 @@
 //! module, separate from each other and from its heap.
 #![tactic(auto)]
 
-ghost use Rattle.std.specs.Prelude.{◌≡◌, ◌≢◌, IfOk, take, string_bytes};
+ghost use Rattle.std.specs.Prelude.{◌≡◌, ◌≢◌, ◌≤◌, IfOk, length, take, string_bytes};
 ghost use Rattle.page_check.specs.Printed.{line_of, refused_line, IsPrintedByCheck, IsPrintedBySolve};
 
 use rolls::Refusal;
@@ -17,7 +17,8 @@ use std::fmt::Write;
 /// or room is short.
 #[unsafe(no_mangle)]
 pub extern "C" fn page_check(alloc: Global, text: &[u8], out: &mut [u8]) -> usize
-    ensures { result ≢ 0 → IsPrintedByCheck text.now (take result out.new) }
+    ensures printed { result ≢ 0 → IsPrintedByCheck text.now (take result out.new) }
+    ensures room { result ≤ length out.new }
 {
     match printed(alloc, checked(alloc, text)) {
         Ok(line) => put(out, line.as_bytes()),
@@ -29,7 +30,8 @@ pub extern "C" fn page_check(alloc: Global, text: &[u8], out: &mut [u8]) -> usiz
 /// or room is short.
 #[unsafe(no_mangle)]
 pub extern "C" fn page_solve(alloc: Global, text: &[u8], out: &mut [u8]) -> usize
-    ensures { result ≢ 0 → IsPrintedBySolve text.now (take result out.new) }
+    ensures printed { result ≢ 0 → IsPrintedBySolve text.now (take result out.new) }
+    ensures room { result ≤ length out.new }
 {
     match printed(alloc, solved(alloc, text)) {
         Ok(line) => put(out, line.as_bytes()),
@@ -66,7 +68,8 @@ fn refused(alloc: Global, refusal: Refusal) -> Result<String, AllocError>
 
 /// Puts a text at the start of a room, and answers its number of bytes: 0 where there is no room.
 fn put(out: &mut [u8], text: &[u8]) -> usize
-    ensures { result ≢ 0 → take result out.new ≡ text.now }
+    ensures text { result ≢ 0 → take result out.new ≡ text.now }
+    ensures room { result ≤ length out.new }
 {
     let n = text.len();
     if out.len() < n {

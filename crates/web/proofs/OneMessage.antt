@@ -18,6 +18,8 @@ use Rattle.desk.specs.DeskState.{DeskState}
 use Rattle.desk.specs.Sessions.{AnswersAtOnce, GoesOn}
 use Rattle.desk.specs.Saved.{IsSaved}
 use Rattle.sqlite.specs.Held.{state}
+use Rattle.sqlite.specs.State.{State as Seen}
+use Rattle.rolls.specs.State.{State}
 use Rattle.wire.specs.Run.{MessageText}
 use Rattle.api.specs.Texts.{IsRead, refusal_text, text_of}
 use Rattle.web.specs.Serving.{AnswersFrom, AnswersMessage, AnswersOffice, AnswersRead, AtDesk, Gets, GetsAt, at_desk}
@@ -67,18 +69,31 @@ module _ {D S : Type 0} (see : D → S) (At : D → Request → Result Reply Ref
   read_seen (Ok q) bytes at = (at.0, seen q at.0 at.1, at.2)
   read_seen (Err r) bytes at = (at.0, ap see at.1)
 
+-- where memory runs out for the text of an answer, what was saved is as it is
+without_text : (office : State) (q : Request) (reply : Reply) (old new : Seen) → IsSaved office q (Ok reply) old new → IsSaved office q (Err Memory) old new
+without_text office q reply old new is = record {
+  crash = is.crash;
+  alone = λ changes clean. tt;
+  stays_open = λ changes clean. tt;
+  stays_shut = is.stays_shut;
+  acted_on = λ changes acted. refl;
+  cause = λ quiet clean storage. cc;
+  available = λ unlimited ready clean storage. cc;
+  ours = is.ours;
+}
+
 module _ {S : Type 0} (ghosts : Ghosts S) where
   -- what a desk promises of a request is what the request gets
   pub gets_at : (o n : DeskState S) (q : Request) (a : Result Reply Refusal) → Step layers o.office q a n.office → AnswersAtOnce o.office o.session q a → GoesOn o.office q a o.session n.session
       → IsSaved o.office q a (state ghosts o.store) (state ghosts n.store) → GetsAt ghosts o q a n
-  gets_at o n q a step at_once goes saved = record { gets = record { step = step; at_once = at_once; goes = goes }; available = saved.available; ours = saved.ours }
+  gets_at o n q a step at_once goes saved = record { gets = record { step = step; at_once = at_once; goes = goes }; saved = saved }
 
   -- a request that gets an answer is answered by its text, or as one that runs out of memory
   pub answered_from : (o n : DeskState S) (bytes : List ℕ) (q : Request) (a : Result Reply Refusal) → GetsAt ghosts o q a n
       → (bytes ≡ text_of a) ⊎ (IsRead a × (bytes ≡ refusal_text Memory)) → AnswersRead (GetsAt ghosts) o (Ok q) bytes n
   answered_from o n bytes q a at (inl earlier) = (a, at, earlier)
   answered_from o n bytes q (Ok reply) at (inr earlier) =
-      (Err Memory, record { gets = text_runs_out (at_desk o) (at_desk n) q reply earlier.0 at.gets.step.0 at.gets.step.1 at.gets.goes; available = λ unlimited ready clean is. cc; ours = at.ours }, earlier.1)
+      (Err Memory, record { gets = text_runs_out (at_desk o) (at_desk n) q reply earlier.0 at.gets.step.0 at.gets.step.1 at.gets.goes; saved = without_text o.office q reply (state ghosts o.store) (state ghosts n.store) at.saved }, earlier.1)
   answered_from o n bytes q (Err refused) at (inr earlier) = absurd earlier.0
 
   -- a desk with its tables answers as what is seen of it, and as its office

@@ -1,5 +1,5 @@
 -- What the office answers to a message.
-use Rattle.std.specs.Prelude.{◌≡◌, ℕ, List, Option, None, Result, Ok, Err, IsTrue}
+use Rattle.std.specs.Prelude.{◌≡◌, ℕ, List, Option, None, Result, Ok, Err}
 use Rattle.sqlite.specs.Held.{state}
 use Rattle.sqlite.specs.State.{HasCleanDisk}
 use Rattle.sqlite_trees.specs.declared.store.Store.{Ghosts}
@@ -11,10 +11,8 @@ use Rattle.rolls.specs.declared.request.Request.{Request}
 use Rattle.rolls.specs.Run.{Step}
 use Rattle.solver.specs.SessionState.{SessionState}
 use Rattle.outside.specs.Layers.{layers}
-use Rattle.tables.specs.Causes.{IsCaused}
-use Rattle.store.specs.Available.{AreReady}
-use Rattle.tables.specs.Ours.{IsOurs}
 use Rattle.desk.specs.DeskState.{DeskState}
+use Rattle.desk.specs.Saved.{IsSaved}
 use Rattle.desk.specs.Sessions.{AnswersAtOnce, GoesOn}
 use Rattle.wire.specs.declared.outcome.End.{End}
 use Rattle.wire.specs.declared.outcome.End.TheVariants.{Closed, Unfinished, BadHead, TooLarge, Hundred}
@@ -61,12 +59,10 @@ abbrev pub AnswersMessage : AtDesk → MessageText → List ℕ → AtDesk → T
 AnswersMessage = AnswersBy Gets
 
 module _ {S : Type 0} (ghosts : Ghosts S) where
-  -- The same where its tables are kept. Over tables as they are made here, with rowids left, a fault of the storage is returned only for a
-  -- shut connection or a fault of the disk, and they stay as they are made here.
+  -- The same where its tables are kept: what a crash leaves, that an answered change has its tables alone, and why the storage has failed.
   pub record GetsAt (before : DeskState S) (asked : Request) (answer : Result Reply Refusal) (after : DeskState S) : Type 0 where
     pub gets : Gets (at_desk before) asked answer (at_desk after)
-    pub available : (state ghosts before.store).step_limit ≡ None → AreReady (state ghosts before.store).now → IsCaused no.Storage (λ _ _. ⊥) answer (state ghosts before.store) (state ghosts after.store)
-    pub ours : IsOurs (state ghosts before.store).now → HasCleanDisk (state ghosts after.store) → IsTrue (state ghosts after.store).is_open → IsOurs (state ghosts after.store).now
+    pub saved : IsSaved before.office asked answer (state ghosts before.store) (state ghosts after.store)
 
   -- a message is answered so, and a disk that is clean after it was clean before it
   pub record AnswersFrom (before : DeskState S) (said : MessageText) (bytes : List ℕ) (after : DeskState S) : Type 0 where

@@ -11,8 +11,10 @@ use crate::worlds::{Door, Ports, World};
 use sqlite::{Connection, Error, FileFrom, FileStore, Start};
 use sqlite_disk::Disk;
 use std::fs::File;
-use std::net::{Ipv4Addr, SocketAddrV4, TcpListener, TcpStream};
+use std::io::Read;
+use std::net::{Ipv4Addr, Shutdown, SocketAddrV4, TcpListener, TcpStream};
 use std::rt::HostRuntime;
+use std::time::Duration;
 use std::{env, io};
 use wire::Watched;
 
@@ -30,7 +32,31 @@ impl Door for TcpListener {
         Ok((Watched::new(stream.try_clone()?), Watched::new(stream)))
     }
 
-    fn close(&mut self, _reader: Watched<TcpStream>, _writer: Watched<TcpStream>) {}
+    fn close(&mut self, _reader: Watched<TcpStream>, writer: Watched<TcpStream>) {
+        end(writer.into_inner());
+    }
+}
+
+/// How many milliseconds a client is waited for that neither sends more nor closes its end.
+const PATIENCE: u64 = 50;
+
+/// How much is thrown away of what a client has sent besides: some hundred of the largest messages.
+const PIECES: usize = 2048;
+
+const PIECE: usize = 4096;
+
+/// Ends the connection such that the client gets all that was written: the system throws away what it has not delivered yet where bytes
+/// are left unread. So the writing side is shut first, and what has come is read until the client closes its end.
+fn end(mut stream: TcpStream) {
+    let _ = stream.shutdown(Shutdown::Write);
+    let _ = stream.set_read_timeout(Some(Duration::from_millis(PATIENCE)));
+    let mut piece = [0u8; PIECE];
+    for _ in 0..PIECES {
+        match stream.read(&mut piece) {
+            Ok(0) | Err(_) => return,
+            Ok(_) => {}
+        }
+    }
 }
 
 /// Returns a port of the loopback address: nobody else's machine reaches it.

@@ -1,0 +1,86 @@
+-- What was answered stays, and what a crash leaves is found whole.
+use Rattle.std.proofs.Common.{◌≡◌, ◌⊎◌, inl, inr, refl, List, [], ◌∷◌, sym, subst}
+use Rattle.std.specs.Prelude.{false, map, Result, Ok, Err, IsOk}
+use Rattle.desk.proofs.Common.{HasCleanDisk, IsFit, Refusal, Reply, Request, State, Survives, Trees, changes_nothing, in_latest, latest, number_of, rolls_of, rows_in, state}
+use Rattle.sqlite.specs.Effect.{Database, IsDatabase}
+use Rattle.sqlite_trees.specs.declared.store.Store.{Ghosts}
+use Rattle.row_model.specs.declared.table.Table.TheVariants.{Edition}
+use Rattle.tables.specs.Table.{table_at, values}
+use Rattle.tables.proofs.SameTrees.{listed_so, stands_so}
+use Rattle.store.specs.Common.{AllRows}
+use Rattle.store.specs.Laws.{OpensAgain}
+use Rattle.store.specs.Reading.{IsDamaged}
+use Rattle.store.specs.Tables.{StandsFor, TablesHold, numbered}
+use Rattle.store.proofs.Standing.{stand_as}
+use Rattle.desk.specs.DeskState.{DeskState}
+use Rattle.desk.specs.Laws.{AnswersStay, IsAsked, IsAtRest, IsFoundWhole, IsOneOf, IsOpenedAfter, IsReached, LeavesOneOf}
+use Rattle.desk.proofs.AfterCrash.{ask_whole, rest_kept}
+use Rattle.desk.proofs.SavedRows.{was_clean}
+
+-- the tables hold the same rows wherever their trees are found
+found_so : (db found : Database) (rows : AllRows) → IsDatabase db → IsDatabase found → found.trees ≡ db.trees → TablesHold db rows → TablesHold found rows
+found_so db found rows sound here trees t =
+    let all = listed_so db found sound here trees in
+    stand_as (rolls_of latest) (number_of latest) (number_of latest) db found rows t (stands_so (table_at Edition) t.edition (numbered (number_of latest)) db found all trees t.editions)
+    (λ table among. stands_so (table_at table) (t.places table) (map values (rows table)) db found all trees (t.rolls table among))
+
+-- these trees are those of a database whose tables stand for a fit office
+record Stood (trees : Trees) : Type 0 where
+  db : Database
+  sound : IsDatabase db
+  same : trees ≡ db.trees
+  office : State
+  fit : IsFit office
+  stands : StandsFor db office
+
+stood_is_whole : (found : Database) → IsDatabase found → Stood found.trees → IsDamaged found → ⊥
+stood_is_whole found sound it damaged =
+    damaged latest it.office it.fit (in_latest (found_so it.db found (rows_in it.office) it.sound sound it.same it.stands))
+
+module _ {S : Type 0} (ghosts : Ghosts S) where
+  -- a change that was answered leaves the desk at rest
+  at_rest : (old new : DeskState S) (q : Request) (a : Result Reply Refusal) → changes_nothing old.office q ≡ false → IsOk a → IsAsked ghosts old q a new
+      → HasCleanDisk (state ghosts new.store) → IsAtRest ghosts new
+  at_rest old new q (Ok reply) change ok asked clean =
+      let is_open = asked.saved.stays_open change clean in
+      record { is_open = is_open; sound = (asked.live is_open).0; stands = asked.stands clean is_open; fit = asked.fit; alone = asked.saved.alone change clean }
+  at_rest old new q (Err refusal) change ok asked clean = absurd ok
+
+  stood : (desk : DeskState S) (trees : Trees) → IsAtRest ghosts desk → (state ghosts desk.store).may_leave trees → Stood trees
+  stood desk trees rest left = record {
+    db = (state ghosts desk.store).now;
+    sound = rest.sound;
+    same = rest.alone trees left;
+    office = desk.office;
+    fit = rest.fit;
+    stands = rest.stands;
+  }
+
+  -- a crash leaves trees of tables that stood
+  all_stood : (qs : List Request) (answers : List (Result Reply Refusal)) (pending : List Request) (desk : DeskState S) → IsReached ghosts qs answers pending desk
+      → HasCleanDisk (state ghosts desk.store) → (trees : Trees) → (state ghosts desk.store).may_leave trees → Stood trees
+  all_stood [] [] pending desk r clean trees left = stood desk trees r.1 left
+  all_stood (q ∷ qs) (a ∷ answers) pending desk r clean trees left = elim r.4 [
+    | inl c ↦ stood desk trees (at_rest r.0 desk q a c.0 c.1 r.3 clean) left
+    | inr s ↦ elim (r.3.saved.crash.crash clean trees left) [
+      | inl earlier ↦ all_stood qs answers r.1 r.0 r.2 (was_clean (state ghosts r.0.store) (state ghosts desk.store) _ r.3.saved.crash clean) trees earlier
+      | inr it ↦ record { db = it.db; sound = it.sound; same = it.same; office = it.step.office; fit = it.step.fit; stands = it.step.stands }
+    ]
+  ]
+  all_stood [] (a ∷ answers) pending desk r clean trees left = absurd r
+  all_stood (q ∷ qs) [] pending desk r clean trees left = absurd r
+
+  pub found_whole : IsFoundWhole ghosts
+  found_whole qs answers pending desk r clean found sound left = stood_is_whole found sound (all_stood qs answers pending desk r clean found.trees left)
+
+  module _ (again : OpensAgain) where
+    pub answers_stay : (qs : List Request) (answers : List (Result Reply Refusal)) (pending : List Request) (desk : DeskState S) → IsReached ghosts qs answers pending desk → LeavesOneOf ghosts pending desk
+    answers_stay [] [] pending desk r office it = inl (rest_kept ghosts again desk office r.1 it)
+    answers_stay (q ∷ qs) (a ∷ answers) pending desk r office it = elim r.4 [
+      | inl c ↦ inl (rest_kept ghosts again desk office (at_rest r.0 desk q a c.0 c.1 r.3 it.clean) it)
+      | inr s ↦
+          let one : IsOneOf r.0.office (q ∷ r.1) office = ask_whole ghosts again r.0 desk r.1 q (answers_stay qs answers r.1 r.0 r.2) r.3.saved.crash office it in
+          subst (λ pending. IsOneOf desk.office pending office) (sym s.1) (subst (λ o. IsOneOf o (q ∷ r.1) office) (sym s.0) one)
+    ]
+    answers_stay [] (a ∷ answers) pending desk r office it = absurd r
+    answers_stay (q ∷ qs) [] pending desk r office it = absurd r
