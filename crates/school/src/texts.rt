@@ -3,7 +3,7 @@
 //! `^{FIRST END PIECE^}` is the piece once for each number from the first up to the end. In it `@@` is the number, and
 //! `@A B M C@` is the number times A and B more, by the remainder of M, and C more.
 //!
-//! A cell `^#LENGTH HASH` stands for LENGTH bytes with this hash, which is that of the lot: FNV-1a.
+//! A cell `^#LENGTH HASH` stands for LENGTH bytes with this hash, FNV-1a.
 
 use crate::unplayed::Unplayed;
 use std::alloc::Global;

@@ -75,7 +75,7 @@ fn give(network: &mut Network, project: usize, supervisor: usize) {
 }
 
 /// Takes a student out of the project, if there is one, and returns the project.
-fn leave(network: &mut Network, student: usize) -> Option<usize> {
+pub(crate) fn leave(network: &mut Network, student: usize) -> Option<usize> {
     let project = network.students[student].project?;
     network.students[student].project = None;
     network.inside[project].retain(|other| *other != student);
@@ -83,7 +83,11 @@ fn leave(network: &mut Network, student: usize) -> Option<usize> {
 }
 
 /// Adds a student to a project.
-fn come(network: &mut Network, student: usize, project: usize) -> Result<(), AllocError> {
+pub(crate) fn come(
+    network: &mut Network,
+    student: usize,
+    project: usize,
+) -> Result<(), AllocError> {
     network.students[student].project = Some(project);
     // Where this runs out of memory a student is between two projects. The search ends with it, and nobody sees the network again.
     network.inside[project].push(student)?;

@@ -1,10 +1,11 @@
 //! The network: projects and supervisors with their potentials, and the students with the projects that they have.
 
-use crate::labels::{Packed, row, worths};
+use crate::exchange::move_to;
+use crate::labels::{Packed, packed, row, worths};
 use crate::padded::Padded;
 use spa::{Aim, Instance, Matching, RANKS};
 use std::alloc::{AllocError, Global};
-use verdict::Prices;
+use verdict::{Prices, Proved};
 
 /// A project or a supervisor.
 #[derive(Clone, Copy, Default)]
@@ -37,7 +38,7 @@ pub(crate) struct Student {
 /// The projects and then the supervisors, and the students.
 #[derive(Drop)]
 pub(crate) struct Network<'a> {
-    instance: &'a Instance,
+    pub instance: &'a Instance,
     aim: Aim,
     pub worths: [Packed; RANKS],
     pub nodes: Padded<Node>,
@@ -99,6 +100,12 @@ fn inside_of(
     Ok(inside)
 }
 
+/// Returns the project at a place of a list, from 1.
+fn choice(list: &[usize], place: Option<u8>) -> Option<usize> {
+    let before = place?.checked_sub(1)?;
+    list.get(before as usize).copied()
+}
+
 /// Returns the place of a project in a list, from 1.
 fn place_of(list: &[usize], project: usize) -> Option<u8> {
     let before = list.iter().position(|choice| *choice == project)?;
@@ -123,6 +130,38 @@ impl<'a> Network<'a> {
             inside,
             students: Padded::filled(alloc, instance.student_count(), Student::default())?,
         })
+    }
+
+    /// Makes each node and each student cost and gain what prices say.
+    fn price_as(&mut self, prices: &Prices) {
+        for (student, price) in prices.students.iter().enumerate() {
+            self.students[student].potential = packed(self.aim, price);
+        }
+        let projects = prices.projects.len();
+        for (supervisor, price) in prices.supervisors.iter().enumerate() {
+            self.nodes[projects.wrapping_add(supervisor)].potential = packed(self.aim, price);
+        }
+        for (project, price) in prices.projects.iter().enumerate() {
+            let above = self.nodes[self.nodes[project].supervisor].potential;
+            self.nodes[project].potential = packed(self.aim, price).wrapping_add(above);
+        }
+    }
+
+    /// Returns the network of a matching with its prices.
+    pub(crate) fn of(
+        alloc: Global,
+        instance: &'a Instance,
+        aim: Aim,
+        proved: &Proved,
+    ) -> Result<Network<'a>, AllocError> {
+        let mut network = Network::start(alloc, instance, aim)?;
+        network.price_as(&proved.prices);
+        for (student, place) in proved.matching.places.iter().enumerate() {
+            if let Some(project) = choice(network.list(student), *place) {
+                move_to(&mut network, student, project)?;
+            }
+        }
+        Ok(network)
     }
 
     /// Returns the list of a student.

@@ -14,7 +14,7 @@ ghost use Rattle.solver.specs.Inside.Solved.{IsOf, AreNumbersOf, ArePricesOf};
 
 use crate::worths::{admit_weighed, numbers};
 use network::Network;
-use search::search;
+use search::{search, settle};
 use spa::{Aim, COMPONENTS, Instance, Lex, Matching, RANKS, lex_law, order_law};
 use std::alloc::{AllocError, Global};
 use verdict::{Prices, Proved as Solved, verdict_law};
@@ -101,7 +101,8 @@ fn admitted(alloc: Global, instance: &Instance, aim: Aim) -> Result<Solved, Allo
 }
 
 /// Returns what was found, if anything was. Else the students are admitted one by one to a network whose pairs are worth their weights,
-/// which is proved to come to the best. An `Err` is out of memory, and comes only where nothing was found.
+/// which is proved to come to the best, and of the best matchings the lot takes one. An `Err` is out of memory, and comes only where nothing
+/// was found.
 pub fn found_or_admitted(
     alloc: Global,
     instance: &Instance,
@@ -116,7 +117,7 @@ pub fn found_or_admitted(
     verdict_law(instance);
     match found {
         Some(solved) => Ok(solved),
-        None => admitted(alloc, instance, aim),
+        None => settle(alloc, instance, aim, admitted(alloc, instance, aim)?),
     }
 }
 
