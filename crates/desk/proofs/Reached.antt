@@ -1,7 +1,7 @@
 -- What was answered stays, and what a crash leaves is found whole.
-use Rattle.std.proofs.Common.{◌≡◌, ◌⊎◌, inl, inr, refl, List, [], ◌∷◌, sym, subst}
+use Rattle.std.proofs.Common.{◌≡◌, ◌⊎◌, inl, inr, List, [], ◌∷◌, sym, subst}
 use Rattle.std.specs.Prelude.{false, map, Result, Ok, Err, IsOk}
-use Rattle.desk.proofs.Common.{HasCleanDisk, IsFit, Refusal, Reply, Request, State, Survives, Trees, changes_nothing, in_latest, latest, number_of, rolls_of, rows_in, state}
+use Rattle.desk.proofs.Common.{HasCleanDisk, IsFit, Refusal, Reply, Request, State, Trees, changes_nothing, in_latest, latest, number_of, rolls_of, rows_in, state}
 use Rattle.sqlite.specs.Effect.{Database, IsDatabase}
 use Rattle.sqlite_trees.specs.declared.store.Store.{Ghosts}
 use Rattle.row_model.specs.declared.table.Table.TheVariants.{Edition}
@@ -13,7 +13,7 @@ use Rattle.store.specs.Reading.{IsDamaged}
 use Rattle.store.specs.Tables.{StandsFor, TablesHold, numbered}
 use Rattle.store.proofs.Standing.{stand_as}
 use Rattle.desk.specs.DeskState.{DeskState}
-use Rattle.desk.specs.Laws.{AnswersStay, IsAsked, IsAtRest, IsFoundWhole, IsOneOf, IsOpenedAfter, IsReached, LeavesOneOf}
+use Rattle.desk.specs.Laws.{IsAsked, IsAtRest, IsFoundWhole, IsOneOf, IsReached, LeavesOneOf}
 use Rattle.desk.proofs.AfterCrash.{ask_whole, rest_kept}
 use Rattle.desk.proofs.SavedRows.{was_clean}
 
@@ -44,7 +44,7 @@ module _ {S : Type 0} (ghosts : Ghosts S) where
   at_rest old new q (Ok reply) change ok asked clean =
       let is_open = asked.saved.stays_open change clean in
       record { is_open = is_open; sound = (asked.live is_open).0; stands = asked.stands clean is_open; fit = asked.fit; alone = asked.saved.alone change clean }
-  at_rest old new q (Err refusal) change ok asked clean = absurd ok
+  at_rest old new q (Err refusal) change ok asked clean = absurd (let it = ok in cc)
 
   stood : (desk : DeskState S) (trees : Trees) → IsAtRest ghosts desk → (state ghosts desk.store).may_leave trees → Stood trees
   stood desk trees rest left = record {
