@@ -101,7 +101,7 @@ fn admitted(alloc: Global, instance: &Instance, aim: Aim) -> Result<Solved, Allo
 }
 
 /// Returns what was found, if anything was. Else the students are admitted one by one to a network whose pairs are worth their weights,
-/// which is proved to come to the best, and of the best matchings the lot takes one. An `Err` is out of memory, and comes only where nothing
+/// which is proved to come to the best, and of the best matchings the lot takes one. An `Err` is out of memory, and comes only if nothing
 /// was found.
 pub fn found_or_admitted(
     alloc: Global,
