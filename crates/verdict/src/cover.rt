@@ -32,7 +32,7 @@ fn paid(
 }
 
 /// Returns what a pair of this rank weighs.
-fn weight_of(rank: usize) -> [i64; COMPONENTS]
+pub fn weight_of(rank: usize) -> [i64; COMPONENTS]
     requires first { 1 ≤ rank }
     requires last { rank < COMPONENTS }
     ensures { at result ≡ (λ t. pos (weight rank t)) }

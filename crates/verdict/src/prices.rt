@@ -33,7 +33,7 @@ fn is_in_range(price: &[i64; COMPONENTS]) -> bool
 }
 
 /// Whether each place of each price is within the limit.
-fn are_in_range(prices: &[[i64; COMPONENTS]]) -> bool
+pub fn are_in_range(prices: &[[i64; COMPONENTS]]) -> bool
     ensures { IsTrue result ↔ AllInRange prices.now }
 {
     for price in prices {
@@ -45,21 +45,21 @@ fn are_in_range(prices: &[[i64; COMPONENTS]]) -> bool
 }
 
 /// Returns the price of nothing: zero.
-fn nothing() -> [i64; COMPONENTS]
+pub fn nothing() -> [i64; COMPONENTS]
     ensures { at result ≡ none }
 {
     [0; COMPONENTS]
 }
 
 /// Whether a price comes before zero by an aim.
-fn is_below_zero(aim: Aim, price: &[i64; COMPONENTS]) -> bool
+pub fn is_below_zero(aim: Aim, price: &[i64; COMPONENTS]) -> bool
     ensures { IsTrue result ↔ order aim (at price.now) none }
 {
     precedes(aim, price, &nothing())
 }
 
 /// Whether none of these prices comes before zero by an aim.
-fn are_not_below_zero(aim: Aim, prices: &[[i64; COMPONENTS]]) -> bool
+pub fn are_not_below_zero(aim: Aim, prices: &[[i64; COMPONENTS]]) -> bool
     ensures { IsTrue result ↔ AreNotBelowZero (order aim) prices.now }
 {
     for price in prices {
