@@ -135,7 +135,8 @@ def ordinal(rank):
     return f"{rank}{({1: 'st', 2: 'nd', 3: 'rd'}).get(rank, 'th')}"
 
 
-OFFICE = ("first_round", "term", "habits", "traps", "exports", "long", "acts", "further", "hostile", "refusals", "mistakes", "drawn", "greatest")
+SHEETS = ("habits", "traps", "exports", "long", "acts", "further")
+OFFICE = ("first_round", "term", *SHEETS, "hostile", "refusals", "mistakes", "drawn", "greatest")
 PARTS = (*OFFICE, "student", "roles", "held", "keyboard", "phone", "supervisor")
 IN_FIREFOX = ("first_round", "habits", "drawn", "student")
 PAGES = ("office.html", "student.html", "supervisor.html", "check.html")

@@ -35,6 +35,12 @@ MOODLE = (
     '"1","Monday, 2 November 2026, 9:01 AM","Thesis","77","Celik, Ayse","ac77","Rails","Seven bridges"\n'
     '"2","Monday, 2 November 2026, 9:01 AM","Thesis","78","Somebody Else","se78","Rails","Twins"\n'
 )
+# A grid of Google Forms, with the place of each project, and answers without an account, in a sheet with a column of numbers.
+GRID = (
+    'Timestamp,Email Address,Rank [Seven bridges],Rank [Rails],"Rank [Old maps, read anew]"\n'
+    "2026/11/02,eva@uni.example,2,1,\n"
+)
+ANONYMOUS = "ID,Email,Your student number,Wishes\n1,anonymous,4711002,\"1. Rails, 2. Old maps, read anew\"\n"
 
 
 class Sheets:
@@ -76,7 +82,7 @@ class Sheets:
         self.shot("sheet-asked")
         it.pick(".asked [name='3']", "")
         it.press(".asked button.main")
-        self.check("what no column has is asked for", it.text("#told").splitlines()[0], "Say which one column has the quota.")
+        self.check("what no column has is asked for", it.text("#told").splitlines()[:1], ["Say which one column has the quota."])
         hint = self.hinted("projects", "code,name,supervisor,seats\nP1,A,L,2\n")
         self.check("and by its cells it is named", "by its cells perhaps the quota" in hint)
         self.totals()
@@ -97,16 +103,21 @@ class Sheets:
         self.check("a row of totals is not mended", it.table(".mend"), [["4", "code", "s3", "S3"]])
         self.shot("sheet-doubts")
         it.press("#mend-0")
-        it.press("#send")
-        self.check("it is asked before", "roll.csv would make 4 new students, and 2 of them look wrong." in it.text("#sure p"))
-        it.press("#sure button:not(.main)")
-        self.check("and nothing comes in", self.entry("/students/S1"), None)
         it.press("#leave-0")
         it.press("#send")
         there = [code for code in ("S1", "S2", "S3", "TOTAL") if self.entry(f"/students/{code}")]
         self.check("without them", there, ["S1", "S3"])
+        self.chosen("roll.csv", "code,name\nS5,Eve\nS6,S6\n")
+        it.press("#send")
+        self.check("it is asked before", "roll.csv would make 2 new students, and 1 of them look wrong." in it.text("#sure p"))
+        it.press("#sure button:not(.main)")
+        self.check("and nothing comes in", self.entry("/students/S5"), None)
         self.chosen("staff.csv", "code,name,quota\nLEE,Lee,2027\nSUM,,5\n")
         self.check("a quota that is a year", [row[3] for row in it.table(".doubt")], ["the quota is a year?", "a row of totals?"])
+        self.chosen("roll.csv", "Roll 2027,\n,\nCode,Name\nS1,Ann\nCode,Name\nMAR-1,Mo\n1-Mar,Max\n")
+        doubts = [[row[1], row[3]] for row in it.table(".doubt")]
+        self.check("headings and dates", doubts, [["Code", "a row of headings?"], ["1-Mar", "a code that became a date?"]])
+        self.check("a title above the headings", "what stands above the headings, Roll 2027." in it.text("#chosen"))
         self.chosen("staff.csv", "code,name,quota\nLEE,Lee von der Aa,2\nP1,Seven bridges,2\nDEE,dee,2\nP2,A history of bugs,2\n")
         self.check("a title is no name", [row[1] for row in it.table(".doubt")], ["P1", "P2"])
 
@@ -145,6 +156,8 @@ class Sheets:
             ("Project wishes(1-2).csv", MICROSOFT, {1: ["BRIDGES", "MAPS", "RAILS"], 2: ["RAILS", "BRIDGES"]}),
             ("Form Responses 1.csv", GOOGLE, {3: ["BRIDGES", "MAPS"], 4: ["RAILS"]}),
             ("questionnaire.csv", MOODLE, {3: ["RAILS", "BRIDGES"]}),
+            ("grid.csv", GRID, {4: ["RAILS", "BRIDGES"]}),
+            ("anonymous.csv", ANONYMOUS, {2: ["RAILS", "MAPS"]}),
         ):
             self.chosen(name, sheet)
             self.read_so("lists")
@@ -226,8 +239,8 @@ class Sheets:
         it.press("#help")
         text, places = self.asked("GET", "/roundtext")[1], [(None, by) for by in "AB"] + [(code, None) for code in offers]
         worth = {place: self.worth(text, *place) for place in [(None, None), *places, *((code, by) for code, (by, _) in offers.items())]}
-        helps = {place: it for place, it in worth.items() if it > worth[None, None] and it > max(worth[place[0], None], worth[None, place[1]])}
-        helps |= {place: it for place, it in worth.items() if None in place and it > worth[None, None]}
+        alone = lambda what, by: max(worth[what, None], worth[None, by])
+        helps = {place: it for place, it in worth.items() if it > (worth[None, None] if None in place else alone(*place))}
         wanted = sorted(helps.values(), reverse=True)
         said = lambda what, by: " ".join(filter(None, (what, by and f"{'and ' * bool(what)}with {by}")))
         rows = it.table("#helps")
@@ -236,7 +249,8 @@ class Sheets:
         self.check("what would help", sorted(row[0] for row in rows), sorted(said(*place) for place in helps))
         self.check("the most first", [helps[place] for row in rows for place in helps if said(*place) == row[0]], wanted)
         more = [sum(max(it[0] - worth[None, None][0], 0) for place, it in helps.items() if said(*place) == row[0]) for row in rows]
-        self.check("more students", [f"{number} more student" in row[1] for number, row in zip(more, rows) if number], [True] * len([it for it in more if it]))
+        told = [re.match(r"(?:(\d+) more student)?", row[1])[1] for row in rows]
+        self.check("more students", [int(it or 0) for it in told], more)
         self.check("and it changes nothing", self.asked("GET", "/roundtext")[1], text)
 
     def worth(self, text, what=None, by=None):
@@ -280,17 +294,27 @@ SHEET_MUTANTS = [
     ("traps", "office.html", "(files.length > 0 && !files.includes(kind))", "false", "topics.csv is asked about"),
     ("traps", "office.html", "if (plan.lacking.length) return tell", "if (false) return tell", "what no column has is asked for"),
     ("traps", "office.html", "given.slice(1, 4)", "given.slice(2, 4)", "three cells of each column"),
-    ("traps", "office.html", "(it === row && isTotal(row))", "(false)", "a row of totals is not mended"),
+    ("traps", "office.html", "it === row && isTotal(row)", "false", "a row of totals is not mended"),
     ("traps", "office.html", "if (!(await mayMake())) return;", "await mayMake();", "and nothing comes in"),
     ("traps", "office.html", 'return isTotal(row) ? "a row of totals?" : ', "return ", "what looks wrong"),
+    ("traps", "office.html", "filled.slice(titleRows(filled))", "filled", "headings and dates"),
+    ("traps", "office.html", "DATE.test(code) ?", "false ?", "headings and dates"),
     ("traps", "office.html", "&& isTitle(name)", "&& false", "a title is no name"),
     ("traps", "office.html", "BOTH.flatMap(of)", "[...BOTH].reverse().flatMap(of)", "a name of two columns"),
     ("traps", "office.html", "plan.isHeadless ? 0 : 1", "1", "a first row that is an entry"),
     ("exports", "office.html", "const only = codes => (codes.length === 1 ?", "const only = codes => (codes.length ?", "two of one title"),
+    ("exports", "office.html", "if (isGrid(head, row, from)) return", "if (false) return", "lists of grid.csv"),
+    ("exports", "office.html", "student (code|id|no|number)|id number", "^id number", "lists of anonymous.csv"),
     ("exports", "office.html", "inOrder(head, of(key)) :", "of(key) :", "lists of Form Responses 1.csv"),
     ("exports", "office.html", "one(pieces.slice(0, most).join(\",\"))", "one(pieces[0])", "lists of Project wishes(1-2).csv"),
     ("exports", "office.html", '.sort().join(" "));', '.join(" "));', "supervisors by name"),
-    ("acts", "office.html", " autofocus>", ">", "the harmless button has the focus"),
+    (
+        "acts",
+        "office.html",
+        '<button value="no">Not now</button><button class="main" value="yes"></button>',
+        '<button class="main" value="yes"></button><button value="no">Not now</button>',
+        "the harmless button has the focus",
+    ),
     ("acts", "office.html", ' aria-labelledby="question"', "", "a name for a reader"),
     ("acts", "office.html", "part(all - seen.size,", "part(0,", "what closing would leave"),
     ("acts", "office.html", ".filter(([, owner]) => owner === code)", "", "whom fewer places hit"),
