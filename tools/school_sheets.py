@@ -191,9 +191,9 @@ class Sheets:
         project = lambda code, owner, quota: ("PUT", f"/projects/{code}", {"name": code.title(), "supervisor": owner, "quota": quota})
         self.does(
             *(supervisor("LIN", "Lin Wei", 3), supervisor("MAY", "Ida May", 3), project("BRIDGES", "LIN", 2), project("RAILS", "MAY", 2)),
-            *(("PUT", f"/students/S{at}", {"name": f"Ann {at}"}) for at in range(1, 6)),
+            *(("PUT", f"/students/S{at}", {"name": f"Ann {at}"}) for at in range(1, 7)),
             ("POST", "/rounds", None),
-            *(("PUT", f"/lists/S{at}", {"choices": ["BRIDGES", "RAILS"][: 1 + (at == 2)]}) for at in (1, 2, 3, 5)),
+            *(("PUT", f"/lists/S{at}", {"choices": ["BRIDGES", "RAILS"][at == 6 : 1 + (at in (2, 6))]}) for at in (1, 2, 3, 5, 6)),
         )
         it.go()
         it.press("#close-round")
@@ -207,9 +207,9 @@ class Sheets:
         for _ in range(3):
             self.keyed("Enter")
             self.rested()
-        self.check("pressed twice", it.text("#state"), "Round 1 is open, greedy, with 4 lists.")
+        self.check("pressed twice", it.text("#state"), "Round 1 is open, greedy, with 5 lists.")
         self.filled("supervisor", "LIN", quota=1)
-        words = "4 lists of the open round have it: S1, S2, S3, S5. The round would place 2 students, and not 3."
+        words = "4 lists of the open round have it: S1, S2, S3, S5. The round would place 3 students, and not 4."
         self.check("whom fewer places hit", it.text("#sure p").startswith(f"Lower the quota of LIN, Lin Wei, from 3 to 1? {words}"))
         it.press("#sure button:not(.main)")
         self.chosen("supervisors.csv", "code,name,quota\nLIN,Lin Wei,0\n")
@@ -221,7 +221,23 @@ class Sheets:
         self.chosen("projects.csv", "code,name,supervisor,quota\nBRIDGES,Bridges,MAY,2\n")
         it.press("#send")
         self.check("the same in a sheet", words in it.text(".wrong"))
+        self.looked_up()
         self.left()
+
+    def looked_up(self):
+        """An entry that is looked up by its name, and one that somebody else changes meanwhile."""
+        it = self.it
+        self.filled("supervisor", "WEI")
+        names = it.run("return [...document.querySelectorAll('[id^=alike-]')].map(it => it.textContent)")
+        self.check("an entry by its name", names, ["LIN Lin Wei"])
+        self.filled("student", "ANN")
+        it.press("#alike-S4")
+        self.check("a student by the name", it.text("#found p"), "Ann 4 has no place.")
+        self.does(("PUT", "/students/S4", {"name": "Ann Four"}))
+        it.press("#keep button")
+        self.check("changed by somebody else", it.text("#sure p").startswith("Somebody has changed this entry since it was shown."))
+        it.press("#sure button:not(.main)")
+        self.check("and it stays so", self.entry("/students/S4")["name"], "Ann Four")
 
     def further(self):
         """Which further place would help, against the program: each is tried at each project, with each supervisor, and at both."""
@@ -315,10 +331,12 @@ SHEET_MUTANTS = [
         '<button class="main" value="yes"></button><button value="no">Not now</button>',
         "the harmless button has the focus",
     ),
+    ("acts", "office.html", "return was === now ||", "return true ||", "changed by somebody else"),
+    ("acts", "office.html", 'plainly(name ?? "").includes(plainly(word))', 'plainly(name ?? "") === plainly(word)', "an entry by its name"),
     ("acts", "office.html", ' aria-labelledby="question"', "", "a name for a reader"),
     ("acts", "office.html", "part(all - seen.size,", "part(0,", "what closing would leave"),
     ("acts", "office.html", ".filter(([, owner]) => owner === code)", "", "whom fewer places hit"),
-    ("acts", "office.html", 'kind === "projects" ? [code]', 'kind ? [code]', "and in a sheet"),
+    ("acts", "office.html", 'kind === "projects" ? [code]', 'kind ? [code]', "whom fewer places hit"),
     ("acts", "office.html", 'inner === 16 ? listers("projects", code) : []', "[]", "a project of another supervisor"),
     ("acts", "office.html", "await whomItHits(kind, code, fault.number)", 'await ""', "who is placed there"),
     ("acts", "office.html", "[it, owner].includes(code)", "it === code", "and in a sheet too"),

@@ -81,8 +81,12 @@ END'''
 MARK = "and the next command"
 # what is tried after the first block, and after the page, and what it prints
 INSTALLED = [("(cd / && sha256sum --quiet -c usr/share/doc/spadesk/SHA256SUMS)", ""), (LINKS, "")]
+# a student who comes late, in a sheet of another country: the block of the passwords is run again
+LATE = r"printf 'account;code\nAnna.Meyer@uni.example;S01\nc.diaz@uni.example;S03\n' > student-accounts.csv"
+PASSWORDS = re.search(r"```sh\n(mkdir[^`]*)```", read("docs", "SERVING.md"))[1]
 BEHIND = [
     ("systemd-analyze verify /lib/systemd/system/spadesk*.service /lib/systemd/system/spadesk-copy.timer", ""),
+    (f"{LATE}; {PASSWORDS}cut -d: -f1 letters/students", "anna.meyer@uni.example\nben.okafor@uni.example\nc.diaz@uni.example\n"),
     ("grep -c ^spadesk: /etc/passwd; stat -c '%A %U' /var/lib/spadesk", "1\ndrwx------ spadesk\n"),
 ]
 SIGNED_IN = "curl -u k.keeper@uni.example:old-bridge https://office.school.example"
