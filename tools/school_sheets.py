@@ -80,6 +80,7 @@ class Sheets:
         self.check("three cells of each column", it.table(".asked")[1][1], "Seven bridges | Rails | Maps")
         self.check("the columns that words speak for", self.picked(), ["code", "name", "supervisor", "quota"])
         self.shot("sheet-asked")
+        self.fits("what a sheet is")
         it.pick(".asked [name='3']", "")
         it.press(".asked button.main")
         self.check("what no column has is asked for", it.text("#told").splitlines()[:1], ["Say which one column has the quota."])
@@ -102,6 +103,7 @@ class Sheets:
         self.check("what would be made", it.text(".fresh"), "New students: S1 Ann; S2 S2; s3 Cy; Total 140.")
         self.check("a row of totals is not mended", it.table(".mend"), [["4", "code", "s3", "S3"]])
         self.shot("sheet-doubts")
+        self.fits("what looks wrong")
         it.press("#mend-0")
         it.press("#leave-0")
         it.press("#send")
@@ -144,7 +146,7 @@ class Sheets:
         it = self.it
         by_name = PROJECTS.replace(",LIN,", ',"Wei, Lin",').replace("Rails,MUELLER", "Rails,Nobody").replace("MUELLER", "Sean Müller")
         it.choose(self.file("supervisors.csv", SUPERVISORS), self.file("projects.csv", by_name))
-        mended = [["2", "supervisor", "Wei, Lin", "LIN"], ["3", "supervisor", "Wei, Lin", "LIN"]]
+        mended = [[str(row), "supervisor", "Wei, Lin", "LIN (Dr Lin Wei)"] for row in (2, 3)]
         self.check("supervisors by name", it.table(".mend")[:2], mended)
         self.check("who is nobody", it.table(".lost"), [["6", "supervisor", "Nobody", "none has this name"]])
         it.choose(self.file("supervisors.csv", SUPERVISORS), self.file("projects.csv", PROJECTS), self.file("roll.csv", STUDENTS))
@@ -199,6 +201,7 @@ class Sheets:
         it.press("#close-round")
         words = "1 student with a list would have no place. 1 student without a list can get none. Students and supervisors see it at once."
         self.check("what closing would leave", words in it.text("#sure p"))
+        self.fits("a final question")
         self.check("the harmless button has the focus", it.run(FOCUS), "Not now")
         if not it.firefox:
             nodes = it.chrome("Accessibility.getFullAXTree")["nodes"]
