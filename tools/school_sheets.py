@@ -77,7 +77,7 @@ class Sheets:
         self.is_asked("people.csv", "code,name,Tutor\nS1,Ann,Lin Wei\n")
         self.is_asked("unknown.csv", "No.;Title;Supervisor;Places\nP1;Seven bridges;LIN;2\nP2;Rails;LIN;1\nP3;Maps;LIN;1\nP4;Ships;LIN;1\n")
         it.pick(".asked [name=kind]", "projects")
-        self.check("three cells of each column", it.table(".asked")[1][1], "Seven bridges | Rails | Maps")
+        self.check("three cells of each column", it.table(".asked")[1][2], "Seven bridges | Rails | Maps")
         self.check("the columns that words speak for", self.picked(), ["code", "name", "supervisor", "quota"])
         self.shot("sheet-asked")
         self.fits("what a sheet is")
