@@ -343,7 +343,7 @@ SHEET_MUTANTS = [
     ("acts", "office.html", 'inner === 16 ? listers("projects", code) : []', "[]", "a project of another supervisor"),
     ("acts", "office.html", "await whomItHits(kind, code, fault.number)", 'await ""', "who is placed there"),
     ("acts", "office.html", "[it, owner].includes(code)", "it === code", "and in a sheet too"),
-    ("acts", "office.html", "const isLast = round === rounds.length;", "const isLast = false;", "if a student leaves"),
+    ("acts", "office.html", "isLast = round === rounds.length, stays", "isLast = false, stays", "if a student leaves"),
     ("further", "office.html", "[...part(more - size", "[...part(size - more", "more students"),
     ("further", "office.html", "price.some(Number)", "price.every(Number)", "what would help"),
     ("further", "office.html", "line.startsWith(`P,${what},`) ||", "", "what would help"),
