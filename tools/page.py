@@ -51,6 +51,8 @@ OFFICE_MUTANTS = [
     ("first_round", "office.html", "read(`/reports/text/${number}`)", "read(`/reports/text/${number}`).then(() => \"\")", "its text"),
     ("term", "office.html", 'students("missing", number)', 'students("unplaced", number)', "who has no list"),
     ("first_round", "check.html", 'kind === "best" && !rowOf("C")', 'kind === "never" && !rowOf("C")', "by check.html: ''"),
+    ("first_round", "check.html", "|| bytes.includes(0x0d)", "", "a proof that was saved anew"),
+    ("first_round", "check.html", "sum + Number(row.at(-1))", "sum + 1", "what no proof can vouch for"),
     ("first_round", "check.html", "list?.indexOf(place) + 1}", "list?.indexOf(place)}", "the list of S01"),
     ("first_round", "check.html", '"page_check", bytes', '"page_solve", bytes', "by check.html: ''"),
     ("first_round", "office.html", "`Open round ${rounds.length + 1}`))) return;", "`Open round ${rounds.length + 1}`))) ;", "not opened"),
@@ -135,7 +137,8 @@ def ordinal(rank):
     return f"{rank}{({1: 'st', 2: 'nd', 3: 'rd'}).get(rank, 'th')}"
 
 
-OFFICE = ("first_round", "term", "habits", "traps", "exports", "long", "acts", "further", "hostile", "refusals", "mistakes", "drawn", "greatest")
+SHEETS = ("habits", "traps", "exports", "long", "acts", "further")
+OFFICE = ("first_round", "term", *SHEETS, "hostile", "refusals", "mistakes", "drawn", "greatest")
 PARTS = (*OFFICE, "student", "roles", "held", "keyboard", "phone", "supervisor")
 IN_FIREFOX = ("first_round", "habits", "drawn", "student")
 PAGES = ("office.html", "student.html", "supervisor.html", "check.html")
@@ -537,7 +540,12 @@ class Trial(People, Sheets):
             answer = self.line("check", file, either=True).strip()
             self.check(f"by check.html: {content[:20]!r}", (told(), it.text("#line")), (wanted, answer))
             self.check("an own line is asked for", it.run("return !document.querySelector('#own').hidden"), content == proof)
+        it.choose(self.file("given.txt", proof.replace("\n", "\r\n")), field="#file")
+        time.sleep(0.3)
+        self.check("a proof that was saved anew", "A program has saved it anew, with other line ends." in it.text("#said"))
         it.choose(name, field="#file")
+        time.sleep(0.3)
+        self.check("what no proof can vouch for", "what the file says: 20 lists, 10 projects with 25 places, and 5 super" in it.text("#said"))
         rows = [line.split(",") for line in proof.splitlines()]
         places = {row[1]: row[2] for row in rows if row[0] == "M"}
         for code, *choices in (row[1:] for row in rows if row[0] == "C" and row[1] in codes):

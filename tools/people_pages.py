@@ -280,7 +280,8 @@ class People:
     def addresses(self):
         """Addresses as people type them, and how often a password may be tried."""
         at = lambda *words, **how: (lambda it: (it.status, it.getheader("Location")))(self.answer_to(*words, **how))
-        self.check("without the slash", [at("GET", f"/{role}") for role in ("student", "supervisor")], [(301, "/student/"), (301, "/supervisor/")])
+        for role in ("student", "supervisor"):
+            self.check(f"/{role} without the slash", at("GET", f"/{role}"), (301, f"/{role}/"))
         self.check("without https", at("GET", "/student/?x", port=self.REDIRECTED), (301, "https://127.0.0.1/student/?x"))
         tries = [self.asked("GET", "/student/me", "tries:wrong")[0] for _ in range(330)]
         self.check("tries of a password", (tries[0], tries[-1]), (401, 429))
@@ -305,8 +306,10 @@ class People:
         self.check("a student meanwhile", it.text("#me"), words)
         it.go("/supervisor/", SUPERVISOR)
         self.check("a supervisor meanwhile", (it.text("#state"), it.text("#tables")), (words, ""))
-        for user, paths in ((STUDENT, ("me", "list", "rounds/1", "reports/offers/1")), (SUPERVISOR, ("me", "rounds/1", "reports/placements/1"))):
-            role = "student" if user == STUDENT else "supervisor"
+        for role, user, paths in (
+            ("student", STUDENT, ("me", "list", "rounds/1", "reports/offers/1")),
+            ("supervisor", SUPERVISOR, ("me", "rounds/1", "reports/placements/1")),
+        ):
             self.check(f"what a {role} reaches", {self.asked("GET", f"/{role}/{path}", user)[0] for path in paths}, {503})
         it.go()
         it.press("#reopen")
@@ -598,7 +601,7 @@ MUTANTS = [
     ("supervisor", "supervisor.html", "overflow-wrap: anywhere", "overflow-wrap: normal", "a supervisor's page, 360 px wide"),
     ("supervisor", "nginx.conf", "/supervisors/$own;", "/supervisors/TURING;", "whose it is"),
     ("roles", "nginx.conf", 'default "-";                                  #', "default $own; #", "the code that HOPPER:wrong is told"),
-    ("roles", "nginx.conf", "location = /student { return 301 /student/; }", "", "without the slash"),
+    ("roles", "nginx.conf", "location = /student { return 301 /student/; }", "", "/student without the slash"),
     ("roles", "nginx.conf", "return 301 https://$host$request_uri;", "return 301 https://$host/;", "without https"),
     ("roles", "nginx.conf", "limit_req zone=own_tries", "# limit_req zone=own_tries", "tries of a password"),
     ("held", "nginx.conf", "|rounds|reports)\\b", "|rounds)\\b", "what a student reaches"),

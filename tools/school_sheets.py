@@ -35,6 +35,12 @@ MOODLE = (
     '"1","Monday, 2 November 2026, 9:01 AM","Thesis","77","Celik, Ayse","ac77","Rails","Seven bridges"\n'
     '"2","Monday, 2 November 2026, 9:01 AM","Thesis","78","Somebody Else","se78","Rails","Twins"\n'
 )
+# A grid of Google Forms, with the place of each project, and answers without an account, in a sheet with a column of numbers.
+GRID = (
+    'Timestamp,Email Address,Rank [Seven bridges],Rank [Rails],"Rank [Old maps, read anew]"\n'
+    "2026/11/02,eva@uni.example,2,1,\n"
+)
+ANONYMOUS = "ID,Email,Your student number,Wishes\n1,anonymous,4711002,\"1. Rails, 2. Old maps, read anew\"\n"
 
 
 class Sheets:
@@ -71,12 +77,13 @@ class Sheets:
         self.is_asked("people.csv", "code,name,Tutor\nS1,Ann,Lin Wei\n")
         self.is_asked("unknown.csv", "No.;Title;Supervisor;Places\nP1;Seven bridges;LIN;2\nP2;Rails;LIN;1\nP3;Maps;LIN;1\nP4;Ships;LIN;1\n")
         it.pick(".asked [name=kind]", "projects")
-        self.check("three cells of each column", it.table(".asked")[1][1], "Seven bridges | Rails | Maps")
+        self.check("three cells of each column", it.table(".asked")[1][2], "Seven bridges | Rails | Maps")
         self.check("the columns that words speak for", self.picked(), ["code", "name", "supervisor", "quota"])
         self.shot("sheet-asked")
+        self.fits("what a sheet is")
         it.pick(".asked [name='3']", "")
         it.press(".asked button.main")
-        self.check("what no column has is asked for", it.text("#told").splitlines()[0], "Say which one column has the quota.")
+        self.check("what no column has is asked for", it.text("#told").splitlines()[:1], ["Say which one column has the quota."])
         hint = self.hinted("projects", "code,name,supervisor,seats\nP1,A,L,2\n")
         self.check("and by its cells it is named", "by its cells perhaps the quota" in hint)
         self.totals()
@@ -96,17 +103,23 @@ class Sheets:
         self.check("what would be made", it.text(".fresh"), "New students: S1 Ann; S2 S2; s3 Cy; Total 140.")
         self.check("a row of totals is not mended", it.table(".mend"), [["4", "code", "s3", "S3"]])
         self.shot("sheet-doubts")
+        self.fits("what looks wrong")
         it.press("#mend-0")
-        it.press("#send")
-        self.check("it is asked before", "roll.csv would make 4 new students, and 2 of them look wrong." in it.text("#sure p"))
-        it.press("#sure button:not(.main)")
-        self.check("and nothing comes in", self.entry("/students/S1"), None)
         it.press("#leave-0")
         it.press("#send")
         there = [code for code in ("S1", "S2", "S3", "TOTAL") if self.entry(f"/students/{code}")]
         self.check("without them", there, ["S1", "S3"])
+        self.chosen("roll.csv", "code,name\nS5,Eve\nS6,S6\n")
+        it.press("#send")
+        self.check("it is asked before", "roll.csv would make 2 new students, and 1 of them look wrong." in it.text("#sure p"))
+        it.press("#sure button:not(.main)")
+        self.check("and nothing comes in", self.entry("/students/S5"), None)
         self.chosen("staff.csv", "code,name,quota\nLEE,Lee,2027\nSUM,,5\n")
         self.check("a quota that is a year", [row[3] for row in it.table(".doubt")], ["the quota is a year?", "a row of totals?"])
+        self.chosen("roll.csv", "Roll 2027,\n,\nCode,Name\nS1,Ann\nCode,Name\nMAR-1,Mo\n1-Mar,Max\n")
+        doubts = [[row[1], row[3]] for row in it.table(".doubt")]
+        self.check("headings and dates", doubts, [["Code", "a row of headings?"], ["1-Mar", "a code that became a date?"]])
+        self.check("a title above the headings", "what stands above the headings, Roll 2027." in it.text("#chosen"))
         self.chosen("staff.csv", "code,name,quota\nLEE,Lee von der Aa,2\nP1,Seven bridges,2\nDEE,dee,2\nP2,A history of bugs,2\n")
         self.check("a title is no name", [row[1] for row in it.table(".doubt")], ["P1", "P2"])
 
@@ -133,7 +146,7 @@ class Sheets:
         it = self.it
         by_name = PROJECTS.replace(",LIN,", ',"Wei, Lin",').replace("Rails,MUELLER", "Rails,Nobody").replace("MUELLER", "Sean Müller")
         it.choose(self.file("supervisors.csv", SUPERVISORS), self.file("projects.csv", by_name))
-        mended = [["2", "supervisor", "Wei, Lin", "LIN"], ["3", "supervisor", "Wei, Lin", "LIN"]]
+        mended = [[str(row), "supervisor", "Wei, Lin", "LIN (Dr Lin Wei)"] for row in (2, 3)]
         self.check("supervisors by name", it.table(".mend")[:2], mended)
         self.check("who is nobody", it.table(".lost"), [["6", "supervisor", "Nobody", "none has this name"]])
         it.choose(self.file("supervisors.csv", SUPERVISORS), self.file("projects.csv", PROJECTS), self.file("roll.csv", STUDENTS))
@@ -145,6 +158,8 @@ class Sheets:
             ("Project wishes(1-2).csv", MICROSOFT, {1: ["BRIDGES", "MAPS", "RAILS"], 2: ["RAILS", "BRIDGES"]}),
             ("Form Responses 1.csv", GOOGLE, {3: ["BRIDGES", "MAPS"], 4: ["RAILS"]}),
             ("questionnaire.csv", MOODLE, {3: ["RAILS", "BRIDGES"]}),
+            ("grid.csv", GRID, {4: ["RAILS", "BRIDGES"]}),
+            ("anonymous.csv", ANONYMOUS, {2: ["RAILS", "MAPS"]}),
         ):
             self.chosen(name, sheet)
             self.read_so("lists")
@@ -178,14 +193,15 @@ class Sheets:
         project = lambda code, owner, quota: ("PUT", f"/projects/{code}", {"name": code.title(), "supervisor": owner, "quota": quota})
         self.does(
             *(supervisor("LIN", "Lin Wei", 3), supervisor("MAY", "Ida May", 3), project("BRIDGES", "LIN", 2), project("RAILS", "MAY", 2)),
-            *(("PUT", f"/students/S{at}", {"name": f"Ann {at}"}) for at in range(1, 6)),
+            *(("PUT", f"/students/S{at}", {"name": f"Ann {at}"}) for at in range(1, 7)),
             ("POST", "/rounds", None),
-            *(("PUT", f"/lists/S{at}", {"choices": ["BRIDGES", "RAILS"][: 1 + (at == 2)]}) for at in (1, 2, 3, 5)),
+            *(("PUT", f"/lists/S{at}", {"choices": ["BRIDGES", "RAILS"][at == 6 : 1 + (at in (2, 6))]}) for at in (1, 2, 3, 5, 6)),
         )
         it.go()
         it.press("#close-round")
         words = "1 student with a list would have no place. 1 student without a list can get none. Students and supervisors see it at once."
         self.check("what closing would leave", words in it.text("#sure p"))
+        self.fits("a final question")
         self.check("the harmless button has the focus", it.run(FOCUS), "Not now")
         if not it.firefox:
             nodes = it.chrome("Accessibility.getFullAXTree")["nodes"]
@@ -194,9 +210,9 @@ class Sheets:
         for _ in range(3):
             self.keyed("Enter")
             self.rested()
-        self.check("pressed twice", it.text("#state"), "Round 1 is open, greedy, with 4 lists.")
+        self.check("pressed twice", it.text("#state"), "Round 1 is open, greedy, with 5 lists.")
         self.filled("supervisor", "LIN", quota=1)
-        words = "4 lists of the open round have it: S1, S2, S3, S5. The round would place 2 students, and not 3."
+        words = "4 lists of the open round have it: S1, S2, S3, S5. The round would place 3 students, and not 4."
         self.check("whom fewer places hit", it.text("#sure p").startswith(f"Lower the quota of LIN, Lin Wei, from 3 to 1? {words}"))
         it.press("#sure button:not(.main)")
         self.chosen("supervisors.csv", "code,name,quota\nLIN,Lin Wei,0\n")
@@ -208,7 +224,23 @@ class Sheets:
         self.chosen("projects.csv", "code,name,supervisor,quota\nBRIDGES,Bridges,MAY,2\n")
         it.press("#send")
         self.check("the same in a sheet", words in it.text(".wrong"))
+        self.looked_up()
         self.left()
+
+    def looked_up(self):
+        """An entry that is looked up by its name, and one that somebody else changes meanwhile."""
+        it = self.it
+        self.filled("supervisor", "WEI")
+        names = it.run("return [...document.querySelectorAll('[id^=alike-]')].map(it => it.textContent)")
+        self.check("an entry by its name", names, ["LIN Lin Wei"])
+        self.filled("student", "ANN")
+        it.press("#alike-S4")
+        self.check("a student by the name", it.text("#found p"), "Ann 4 has no place.")
+        self.does(("PUT", "/students/S4", {"name": "Ann Four"}))
+        it.press("#keep button")
+        self.check("changed by somebody else", it.text("#sure p").startswith("Somebody has changed this entry since it was shown."))
+        it.press("#sure button:not(.main)")
+        self.check("and it stays so", self.entry("/students/S4")["name"], "Ann Four")
 
     def further(self):
         """Which further place would help, against the program: each is tried at each project, with each supervisor, and at both."""
@@ -226,8 +258,8 @@ class Sheets:
         it.press("#help")
         text, places = self.asked("GET", "/roundtext")[1], [(None, by) for by in "AB"] + [(code, None) for code in offers]
         worth = {place: self.worth(text, *place) for place in [(None, None), *places, *((code, by) for code, (by, _) in offers.items())]}
-        helps = {place: it for place, it in worth.items() if it > worth[None, None] and it > max(worth[place[0], None], worth[None, place[1]])}
-        helps |= {place: it for place, it in worth.items() if None in place and it > worth[None, None]}
+        alone = lambda what, by: max(worth[what, None], worth[None, by])
+        helps = {place: it for place, it in worth.items() if it > (worth[None, None] if None in place else alone(*place))}
         wanted = sorted(helps.values(), reverse=True)
         said = lambda what, by: " ".join(filter(None, (what, by and f"{'and ' * bool(what)}with {by}")))
         rows = it.table("#helps")
@@ -236,7 +268,8 @@ class Sheets:
         self.check("what would help", sorted(row[0] for row in rows), sorted(said(*place) for place in helps))
         self.check("the most first", [helps[place] for row in rows for place in helps if said(*place) == row[0]], wanted)
         more = [sum(max(it[0] - worth[None, None][0], 0) for place, it in helps.items() if said(*place) == row[0]) for row in rows]
-        self.check("more students", [f"{number} more student" in row[1] for number, row in zip(more, rows) if number], [True] * len([it for it in more if it]))
+        told = [re.match(r"(?:(\d+) more student)?", row[1])[1] for row in rows]
+        self.check("more students", [int(it or 0) for it in told], more)
         self.check("and it changes nothing", self.asked("GET", "/roundtext")[1], text)
 
     def worth(self, text, what=None, by=None):
@@ -280,25 +313,37 @@ SHEET_MUTANTS = [
     ("traps", "office.html", "(files.length > 0 && !files.includes(kind))", "false", "topics.csv is asked about"),
     ("traps", "office.html", "if (plan.lacking.length) return tell", "if (false) return tell", "what no column has is asked for"),
     ("traps", "office.html", "given.slice(1, 4)", "given.slice(2, 4)", "three cells of each column"),
-    ("traps", "office.html", "(it === row && isTotal(row))", "(false)", "a row of totals is not mended"),
+    ("traps", "office.html", "it === row && isTotal(row)", "false", "a row of totals is not mended"),
     ("traps", "office.html", "if (!(await mayMake())) return;", "await mayMake();", "and nothing comes in"),
     ("traps", "office.html", 'return isTotal(row) ? "a row of totals?" : ', "return ", "what looks wrong"),
+    ("traps", "office.html", "filled.slice(titleRows(filled))", "filled", "headings and dates"),
+    ("traps", "office.html", "DATE.test(code) ?", "false ?", "headings and dates"),
     ("traps", "office.html", "&& isTitle(name)", "&& false", "a title is no name"),
     ("traps", "office.html", "BOTH.flatMap(of)", "[...BOTH].reverse().flatMap(of)", "a name of two columns"),
     ("traps", "office.html", "plan.isHeadless ? 0 : 1", "1", "a first row that is an entry"),
     ("exports", "office.html", "const only = codes => (codes.length === 1 ?", "const only = codes => (codes.length ?", "two of one title"),
+    ("exports", "office.html", "if (isGrid(head, row, from)) return", "if (false) return", "lists of grid.csv"),
+    ("exports", "office.html", "student (code|id|no|number)|id number", "^id number", "lists of anonymous.csv"),
     ("exports", "office.html", "inOrder(head, of(key)) :", "of(key) :", "lists of Form Responses 1.csv"),
     ("exports", "office.html", "one(pieces.slice(0, most).join(\",\"))", "one(pieces[0])", "lists of Project wishes(1-2).csv"),
     ("exports", "office.html", '.sort().join(" "));', '.join(" "));', "supervisors by name"),
-    ("acts", "office.html", " autofocus>", ">", "the harmless button has the focus"),
+    (
+        "acts",
+        "office.html",
+        '<button value="no">Not now</button><button class="main" value="yes"></button>',
+        '<button class="main" value="yes"></button><button value="no">Not now</button>',
+        "the harmless button has the focus",
+    ),
+    ("acts", "office.html", "return was === now ||", "return true ||", "changed by somebody else"),
+    ("acts", "office.html", 'plainly(name ?? "").includes(plainly(word))', 'plainly(name ?? "") === plainly(word)', "an entry by its name"),
     ("acts", "office.html", ' aria-labelledby="question"', "", "a name for a reader"),
     ("acts", "office.html", "part(all - seen.size,", "part(0,", "what closing would leave"),
     ("acts", "office.html", ".filter(([, owner]) => owner === code)", "", "whom fewer places hit"),
-    ("acts", "office.html", 'kind === "projects" ? [code]', 'kind ? [code]', "and in a sheet"),
+    ("acts", "office.html", 'kind === "projects" ? [code]', 'kind ? [code]', "whom fewer places hit"),
     ("acts", "office.html", 'inner === 16 ? listers("projects", code) : []', "[]", "a project of another supervisor"),
     ("acts", "office.html", "await whomItHits(kind, code, fault.number)", 'await ""', "who is placed there"),
     ("acts", "office.html", "[it, owner].includes(code)", "it === code", "and in a sheet too"),
-    ("acts", "office.html", "const isLast = round === rounds.length;", "const isLast = false;", "if a student leaves"),
+    ("acts", "office.html", "isLast = round === rounds.length, stays", "isLast = false, stays", "if a student leaves"),
     ("further", "office.html", "[...part(more - size", "[...part(size - more", "more students"),
     ("further", "office.html", "price.some(Number)", "price.every(Number)", "what would help"),
     ("further", "office.html", "line.startsWith(`P,${what},`) ||", "", "what would help"),

@@ -64,8 +64,10 @@ g.hopper@uni.example tall-tree staff
 k.keeper@uni.example old-bridge dissertations
 END
 } | slapadd -q -f trial.conf
-printf '[Service]\nType=forking\nExecStart=/usr/sbin/slapd -f /etc/ldap/trial.conf -h ldaps://127.0.0.1\n[Install]\nWantedBy=multi-user.target\n' \
-  > /etc/systemd/system/directory.service
+{
+  printf '[Service]\nType=forking\nExecStart=/usr/sbin/slapd -f /etc/ldap/trial.conf -h ldaps://127.0.0.1\n'
+  printf '[Install]\nWantedBy=multi-user.target\n'
+} > /etc/systemd/system/directory.service
 systemctl -q enable --now directory
 """
 # prints each link of the installed pages that goes nowhere
@@ -79,8 +81,12 @@ END'''
 MARK = "and the next command"
 # what is tried after the first block, and after the page, and what it prints
 INSTALLED = [("(cd / && sha256sum --quiet -c usr/share/doc/spadesk/SHA256SUMS)", ""), (LINKS, "")]
+# a student who comes late, in a sheet of another country: the block of the passwords is run again
+LATE = r"printf 'account;code\nAnna.Meyer@uni.example;S01\nc.diaz@uni.example;S03\n' > student-accounts.csv"
+PASSWORDS = re.search(r"```sh\n(mkdir[^`]*)```", read("docs", "SERVING.md"))[1]
 BEHIND = [
     ("systemd-analyze verify /lib/systemd/system/spadesk*.service /lib/systemd/system/spadesk-copy.timer", ""),
+    (f"{LATE}; {PASSWORDS}cut -d: -f1 letters/students", "anna.meyer@uni.example\nben.okafor@uni.example\nc.diaz@uni.example\n"),
     ("grep -c ^spadesk: /etc/passwd; stat -c '%A %U' /var/lib/spadesk", "1\ndrwx------ spadesk\n"),
 ]
 SIGNED_IN = "curl -u k.keeper@uni.example:old-bridge https://office.school.example"
@@ -90,18 +96,18 @@ BOOTED = [
     (f"{SIGNED_IN}/preview", '{"fault":"NoRoundOpen","number":19}\n'),
     (
         "systemctl stop spadesk; cp -p /var/lib/spadesk/2027/school.db* /var/lib/spadesk; "
-        f"python3 -c \"import sqlite3; sqlite3.connect('/var/lib/spadesk/school.db').executescript('\'\'\'{FIRST_EDITION}\'\'\')\"; "
+        f"python3 -c \"import sqlite3; sqlite3.connect('/var/lib/spadesk/school.db').executescript('''{FIRST_EDITION}''')\"; "
         f"systemctl start spadesk; {SIGNED_IN}/reports/placements/1",
         "S01              CHESS             1\n",
     ),
     (
-        "systemctl stop spadesk; chown root: /var/lib/spadesk/school.db; systemctl start spadesk; sleep 2; "
+        "systemctl stop spadesk; chown root: /var/lib/spadesk/school.db; systemctl start spadesk 2> /dev/null; "
         "journalctl -q -u spadesk -o cat | grep -m 1 'may not'",
         "/var/lib/spadesk/school.db: spadesk may not read it; it is root's, -rw-------\n",
     ),
     (
-        "until systemctl -q is-failed spadesk; do sleep 1; done; systemctl show -p Result,NRestarts spadesk",
-        "Result=exit-code\nNRestarts=30\n",
+        "until systemctl -q is-failed spadesk; do sleep 1; done; systemctl show -p ActiveState spadesk",
+        "ActiveState=failed\n",
     ),
     ("apt purge -y spadesk > purged.txt 2>&1; ls /var/lib/spadesk", "2027\ncopies\nschool.db\nschool.db-wal\n"),
     ("systemctl restart nginx; systemctl is-active nginx; ls /etc/nginx/sites-enabled", "active\ndefault\n"),
@@ -199,6 +205,7 @@ def ran(machine, kind, commands):
     """Each command of a block, what it must print, and what it prints."""
     if kind == "sh":
         status, out = machine.run("set -e\n" + commands[0][0])
+        time.sleep(2 * ("reload nginx" in commands[0][0]))  # the old workers answer for a moment more
         came = [("" if status == 0 else f"{out}status {status}\n")]
     else:
         out = machine.run("".join(f"{command.rstrip()}\nprintf '\\n{MARK}\\n'\n" for command, _ in commands))[1]
