@@ -4,6 +4,7 @@ use crate::rolls_of::{instance, places};
 use crate::rounds::profile_of;
 use rows::judged::holds;
 use search::search;
+use sha2::{Digest, Sha256};
 use solver::{Audit, audit, found_or_admitted, solve};
 use spa::{AIMS, Aim, Instance, Matching, RANKS, profile};
 use std::alloc::Global;
@@ -209,27 +210,61 @@ fn numbered(alloc: Global, number: u32) -> Result<Matching, Fail> {
     Ok(Matching { places })
 }
 
-/// Searches for the profile that no matching betters by an aim, each tried one after another.
-fn searched(alloc: Global, instance: &Instance, aim: Aim) -> Result<[u32; RANKS], Fail> {
-    let mut best = [0; RANKS];
-    for number in 0..256u32 {
+/// Returns the students in the order of their numbers, with these.
+fn by_number(alloc: Global, instance: &Instance) -> Result<Vec<([u8; 32], usize)>, Fail> {
+    let mut order = Vec::new(alloc);
+    for (student, code) in instance.student_codes().iter().enumerate() {
+        order.push((Sha256::digest(code.as_str()), student))?;
+    }
+    order.sort()?;
+    Ok(order)
+}
+
+/// Whether the first student whose places differ has the better one here than there.
+fn is_drawn_before(order: &[([u8; 32], usize)], here: &[Option<u8>], there: &[Option<u8>]) -> bool {
+    for (_, student) in order {
+        let place = here.get(*student).copied().flatten().unwrap_or(u8::MAX);
+        let other = there.get(*student).copied().flatten().unwrap_or(u8::MAX);
+        if place != other {
+            return place < other;
+        }
+    }
+    false
+}
+
+/// Searches for the matching that an aim and then the lot take, of all matchings, each tried one after another.
+fn searched(alloc: Global, instance: &Instance, aim: Aim) -> Result<Matching, Fail> {
+    let order = by_number(alloc, instance)?;
+    let mut best = numbered(alloc, 0)?;
+    let mut most = [0; RANKS];
+    for number in 1..256u32 {
         let matching = numbered(alloc, number)?;
-        if matching.fault(instance).is_none() {
-            let counts = profile(instance, &matching);
-            if is_better(aim, &counts, &best) {
-                best = counts;
-            }
+        if matching.fault(instance).is_some() {
+            continue;
+        }
+        let counts = profile(instance, &matching);
+        let is_first = counts == most && is_drawn_before(&order, &matching.places, &best.places);
+        if is_first || is_better(aim, &counts, &most) {
+            most = counts;
+            best = matching;
         }
     }
     Ok(best)
 }
 
-/// Compares what is solved by an aim with what the search finds.
+/// Compares what is solved by an aim, in both ways, with what the search finds.
 fn compare_searched(alloc: Global, instance: &Instance, aim: Aim, row: &str) -> Result<(), Fail> {
-    let solved = solve(alloc, instance, aim)?;
-    let counts = profile_of(instance, &solved.matching)?;
     let found = searched(alloc, instance, aim)?;
-    holds(counts == found, row)
+    let solved = solve(alloc, instance, aim)?;
+    holds(
+        solved.matching.places.as_slice() == found.places.as_slice(),
+        row,
+    )?;
+    let admitted = found_or_admitted(alloc, instance, aim, None)?;
+    holds(
+        admitted.matching.places.as_slice() == found.places.as_slice(),
+        row,
+    )
 }
 
 #[test]
@@ -244,6 +279,42 @@ fn a_search_through_all_matchings_finds_none_better(rt: HostRuntime) -> Result<(
             let is_found = search(alloc, &instance, aim)?.is_some();
             holds(is_found, &students)?;
         }
+    }
+    Ok(())
+}
+
+/// Writes rolls of 100 supervisors, 400 projects and 500 students, who list twelve of them.
+fn largest_rolls(alloc: Global, random: &mut Random) -> Result<(String, String, String), Fail> {
+    let mut supervisors = String::new(alloc);
+    let mut projects = String::new(alloc);
+    let mut students = String::new(alloc);
+    for l in 0..100u32 {
+        write!(supervisors, "L{l}:5 ")?;
+    }
+    for p in 0..400u32 {
+        write!(projects, "P{p}:L{}:{} ", p % 100, random.below(3))?;
+    }
+    for s in 0..500u32 {
+        write!(students, "S{s}")?;
+        let step = random.below(30).wrapping_add(1);
+        let mut project = random.below(400);
+        for _ in 0..RANKS {
+            write!(students, ":P{project}")?;
+            project = project.wrapping_add(step) % 400;
+        }
+        write!(students, " ")?;
+    }
+    Ok((supervisors, projects, students))
+}
+
+#[test]
+fn a_search_answers_at_the_limits(rt: HostRuntime) -> Result<(), Fail> {
+    let alloc = rt.alloc();
+    let (supervisors, projects, students) = largest_rolls(alloc, &mut Random(11))?;
+    let instance = instance(alloc, &supervisors, &projects, &students)?;
+    for aim in AIMS {
+        let is_found = search(alloc, &instance, aim)?.is_some();
+        holds(is_found, "500 students")?;
     }
     Ok(())
 }
