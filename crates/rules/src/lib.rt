@@ -24,6 +24,9 @@ mod instances;
 // The words of each command, and its limits.
 #[cfg(test)]
 mod line_words;
+// Results that are posted without lists: what everybody and each student find wrong.
+#[cfg(test)]
+mod posted_results;
 // Helper: instances and matchings from short texts.
 #[cfg(test)]
 mod rolls_of;
