@@ -439,12 +439,12 @@ class People:
           return it.top > innerHeight / 2 && it.bottom <= innerHeight"""
         it.go("/student/", STUDENT)
         top = it.run("return document.querySelector('#h-mine').getBoundingClientRect().top")
-        self.check("the list is on the first screen", top < 700)
+        self.check("the list is on the first screen", top < 400)
         self.check("the bar is at the foot", (it.run(bar), it.text("#state")), (True, "5 chosen, handed in"))
         self.shot("phone")
         it.chrome("Emulation.clearDeviceMetricsOverride")
         it.write("#filter", "brucken")
-        self.check("found without its accent", len(it.run(CARDS)), 2)
+        self.check("found without its accent", (len(it.run(CARDS)), it.text("#none")), (2, ""))
         it.write("#filter", "zeppelin")
         self.check("nothing found", it.text("#none"), "No project has “zeppelin” in its title or in its supervisor’s name.")
         it.run("const it = document.querySelector('#filter'); it.value = ''; it.dispatchEvent(new Event('input'))")
@@ -609,7 +609,7 @@ MUTANTS = [
     ("held", "office.html", '(await held()) === undefined ? "Students', '(await held()) !== 0 ? "Students', "the office is told"),
     ("phone", "student.html", 'isWide ? { open: "" } : {}', '{ open: "" }', "the list is on the first screen"),
     ("phone", "student.html", '.normalize("NFKD")', '.normalize("NFC")', "found without its accent"),
-    ("phone", "student.html", "[...cards.values()].every(", "[...cards.values()].some(", "nothing beside the pages"),
+    ("phone", "student.html", "[...cards.values()].every(", "[...cards.values()].some(", "found without its accent"),
     ("supervisor", "supervisor.html", ".replaceAll('\"\"', '\"')", "", "with the names that the school puts there"),
     ("roles", "nginx.conf", "|placements))", "|placements|unplaced))", f"GET /supervisor/reports/unplaced/1 as {SUPERVISOR}"),
     ("roles", "nginx.conf", "|reports/offers)", "|reports/offers|reports/missing)", f"GET /student/reports/missing/1 as {STUDENT}"),
