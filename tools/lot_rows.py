@@ -78,7 +78,7 @@ def main():
         "little": ("Too few places, quotas of 0, and supervisors that bind", "greedy", little),
         "generous": ("The same by a generous aim", "generous", little),
         "alike": ("All have the same list", "greedy", school(1, 12, 40, (0, 0, 1, 9), (0, 0, 1, 1), (0,) * 12)),
-        "large": ("A round of 500 students", "greedy", school(100, 396, 500, (0, 0, 1, 4), (1, 0, 2, 1), (7, 5, 11, 13, 3, 1))),
+        "many": ("A round of 500 students", "greedy", school(100, 396, 500, (0, 0, 1, 4), (1, 0, 2, 1), (7, 5, 11, 13, 3, 1))),
         "again": ("Another by a generous aim", "generous", school(60, 390, 500, (1, 1, 3, 5), (3, 1, 2, 1), (1, 7, 3, 5, 9, 11))),
     }
     print("# Made by tools/lot_rows.py: whom the lot gives which place.\n")
