@@ -1,7 +1,8 @@
 -- What is owed of a request that is refused, and of one that touches no table.
-use Rattle.std.proofs.Common.{◌≡◌, ◌≢◌, false, Some, Result, Ok, Err, OnOk, IsErr, sym, ap, subst, ◌∙◌}
+use Rattle.std.proofs.Common.{◌≡◌, ◌≢◌, ◌+◌, ◌^◌, arith, false, Some, Result, Ok, Err, OnOk, IsErr, sym, ap, subst, ◌∙◌}
 use Rattle.desk.proofs.Common.{Seen, Refusal, Storage, Reply, Request, changes_nothing, refusal_of, State}
 use Rattle.desk.specs.Saved.{IsSaved}
+use Rattle.store.proofs.Available.{room_for}
 use Rattle.desk.proofs.NoStorage.{unread_named}
 use Rattle.desk.proofs.Runs.{crash_none}
 
@@ -26,5 +27,5 @@ idle_saved o q a old new same refused unstored = subst (λ (s : Seen). IsSaved o
   acted_on = λ change acted. refused change;
   cause = λ quiet clean told. absurd (unstored told);
   available = λ unlimited ready clean told. absurd (unstored told);
-  ours = λ ours clean up. ours;
+  ours = λ ours clean up. (ours, λ count few room. room_for count (2 ^ 20 + count) old.now (omega arith) room);
 })

@@ -1,5 +1,5 @@
 -- A valid request is refused by tables of ours for nothing but the disk, and leaves them ours.
-use Rattle.std.proofs.Common.{◌≡◌, ◌⊎◌, inl, inr, IsTrue, false, List, None, Result, subst}
+use Rattle.std.proofs.Common.{◌≡◌, ◌⊎◌, ◌+◌, ◌^◌, arith, inl, inr, IsTrue, false, length, List, None, Result, subst}
 use Rattle.std.proofs.lemmas.Bool.{cases_Bool}
 use Rattle.sqlite.specs.State.{State as Seen, HasCleanDisk, IsLive}
 use Rattle.row_model.specs.declared.row.Change.{Change}
@@ -13,7 +13,8 @@ use Rattle.rolls.specs.State.{State}
 use Rattle.tables.specs.Causes.{IsCaused}
 use Rattle.tables.specs.Ours.{IsOurs}
 use Rattle.tables.proofs.Ours.{unacted}
-use Rattle.store.specs.Available.{AreFew, AreReady, StaysOurs}
+use Rattle.store.specs.Available.{AreFew, AreReady, LeavesRoom, StaysOurs}
+use Rattle.store.proofs.Available.{room_for}
 use Rattle.store.specs.Causes.{IsHinderedAmong}
 use Rattle.store.specs.Saving.{AreActedOn}
 use Rattle.store.specs.Laws.{TakesChanges}
@@ -36,8 +37,12 @@ module _ (o : State) (changes : List Change) where
         | inl up ↦ absurd (takes changes (rows_in o) old.now (live up).0 ready (keeps (early clean) up) few fresh (subst (λ l. IsHinderedAmong changes l old.now) unlimited hindered))
       ]
 
--- tables of ours stay ours
-pub ours_so : (o : State) (old new : Seen) → Keeps old o → IsLive old → (HasCleanDisk new → HasCleanDisk old) → (HasCleanDisk new → IsTrue new.is_open → IsTrue old.is_open)
-    → (HasCleanDisk new → IsTrue new.is_open → StaysOurs old.now new.now) → IsOurs old.now → HasCleanDisk new → IsTrue new.is_open → IsOurs new.now
+-- tables of ours stay ours, and changes that a request makes take no more rowids than it
+pub ours_so : (o : State) (changes : List Change) (old new : Seen) → Keeps old o → IsLive old → AreFew changes (rows_in o) → (HasCleanDisk new → HasCleanDisk old)
+    → (HasCleanDisk new → IsTrue new.is_open → IsTrue old.is_open) → (HasCleanDisk new → IsTrue new.is_open → StaysOurs changes old.now new.now)
+    → IsOurs old.now → HasCleanDisk new → IsTrue new.is_open → IsOurs new.now × LeavesRoom (2 ^ 20) old.now new.now
 unfolding StaysOurs
-ours_so o old new keeps live early was_open stays ours clean up = let open_before = was_open clean up in stays clean up (rows_in o) (live open_before).0 ours (keeps (early clean) open_before)
+ours_so o changes old new keeps live few early was_open stays ours clean up =
+    let open_before = was_open clean up in
+    let it = stays clean up (rows_in o) (live open_before).0 ours (keeps (early clean) open_before) in
+    (it.0, λ count low room. it.1 few.0 count (omega (arith, low, few.1)) (room_for (length changes + count) (2 ^ 20 + count) old.now (omega (arith, few.1)) room))

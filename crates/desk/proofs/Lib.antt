@@ -6,5 +6,6 @@ pub mod SavedRows
 mod Runs
 mod AfterCrash
 mod Reached
+mod Lasting
 mod SessionAfter
 mod Asked

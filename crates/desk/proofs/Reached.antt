@@ -1,10 +1,15 @@
 -- What was answered stays, and what a crash leaves is found whole.
-use Rattle.std.proofs.Common.{◌≡◌, ◌⊎◌, inl, inr, List, [], ◌∷◌, sym, subst}
-use Rattle.std.specs.Prelude.{false, map, Result, Ok, Err, IsOk}
-use Rattle.desk.proofs.Common.{HasCleanDisk, IsFit, Refusal, Reply, Request, State, Trees, changes_nothing, in_latest, latest, number_of, rolls_of, rows_in, state}
+use Rattle.std.proofs.Common.{◌≡◌, ◌⊎◌, inl, inr, if◌then◌else◌, Bool, length, List, [], ◌∷◌, refl, sym, subst}
+use Rattle.std.proofs.lemmas.Bool.{cases_Bool}
+use Rattle.std.specs.Prelude.{false, true, map, Result, Ok, Err, IsOk}
+use Rattle.desk.proofs.Common.{HasCleanDisk, IsFit, Makes, Step, layers, Refusal, Reply, Request, State, Trees, changes_nothing, in_latest, latest, number_of, rolls_of, rows_in, state}
 use Rattle.sqlite.specs.Effect.{Database, IsDatabase}
 use Rattle.sqlite_trees.specs.declared.store.Store.{Ghosts}
 use Rattle.row_model.specs.declared.table.Table.TheVariants.{Edition}
+use Rattle.rolls.specs.Importing.{after_rows, rows_in as rows_in_text, with_import}
+use Rattle.rolls.specs.State.{has_import}
+use Rattle.rolls.specs.declared.request.Plain.TheVariants.{GetSupervisor, GetProject, GetStudent, GetRound}
+use Rattle.rolls.specs.declared.request.Request.TheVariants as request
 use Rattle.tables.specs.Table.{table_at, values}
 use Rattle.tables.proofs.SameTrees.{listed_so, stands_so}
 use Rattle.store.specs.Common.{AllRows}
@@ -13,7 +18,7 @@ use Rattle.store.specs.Reading.{IsDamaged}
 use Rattle.store.specs.Tables.{StandsFor, TablesHold, numbered}
 use Rattle.store.proofs.Standing.{stand_as}
 use Rattle.desk.specs.DeskState.{DeskState}
-use Rattle.desk.specs.Laws.{IsAsked, IsAtRest, IsFoundWhole, IsOneOf, IsReached, LeavesOneOf}
+use Rattle.desk.specs.Laws.{AskReaches, IsAsked, IsAtRest, IsFoundWhole, IsOneOf, IsReached, LeavesOneOf, Pends}
 use Rattle.desk.proofs.AfterCrash.{ask_whole, rest_kept}
 use Rattle.desk.proofs.SavedRows.{was_clean}
 
@@ -37,7 +42,41 @@ stood_is_whole : (found : Database) → IsDatabase found → Stood found.trees �
 stood_is_whole found sound it damaged =
     damaged latest it.office it.fit (in_latest (found_so it.db found (rows_in it.office) it.sound sound it.same it.stands))
 
+-- what is one of two things is the first where the test holds
+stays_if : (b : Bool) (o other n : State) → b ≡ true → n ≡ (if b then o else other) → n ≡ o
+stays_if true o other n is same = same
+stays_if false o other n is same = absurd (cc)
+
+-- a request that changes nothing leaves the office as it is
+read_stays : (o n : State) (q : Request) (reply : Reply) → changes_nothing o q ≡ true → Makes layers o q reply n → n ≡ o
+read_stays o n (request.Plain (GetSupervisor code)) reply reads made = made.1
+read_stays o n (request.Plain (GetProject code)) reply reads made = made.1
+read_stays o n (request.Plain (GetStudent code)) reply reads made = made.1
+read_stays o n (request.Plain (GetRound number)) reply reads made = made.1
+read_stays o n (request.Plain p) reply reads made = absurd (cc)
+read_stays o n request.Close reply reads made = absurd (cc)
+read_stays o n request.Preview reply reads made = made.4
+read_stays o n request.RoundText reply reads made = made.1
+read_stays o n (request.Report kind round) reply reads made = made.1
+read_stays o n (request.Import id kind bytes) reply reads made =
+    let rows = rows_in_text (layers.records kind bytes) in
+    stays_if (has_import o id) o (with_import (record { id = id; kind = kind; bytes = bytes; rows = length rows }) (after_rows rows o)) n reads made.1
+
+-- so does one that is refused, and after one that was answered and changes the office nothing is pending
+pends : (o n : State) (q : Request) (a : Result Reply Refusal) (before : List Request) → Step layers o q a n
+    → (after : List Request) × Pends o q a n before after × ((after ≡ []) ⊎ (after ≡ q ∷ before))
+pends o n q (Err refusal) before step = (q ∷ before, inr (step.0, refl), inr refl)
+pends o n q (Ok reply) before step = elim (cases_Bool (changes_nothing o q)) [
+  | inl reads ↦ (q ∷ before, inr (read_stays o n q reply reads step.1, refl), inr refl)
+  | inr changes ↦ ([], inl (changes, refl, refl), inl refl)
+]
+
 module _ {S : Type 0} (ghosts : Ghosts S) where
+  pub ask_reaches : AskReaches ghosts
+  ask_reaches qs answers before old new q a reached asked =
+      let it = pends old.office new.office q a before asked.step in
+      (it.0, (old, before, reached, asked, it.1), it.2)
+
   -- a change that was answered leaves the desk at rest
   at_rest : (old new : DeskState S) (q : Request) (a : Result Reply Refusal) → changes_nothing old.office q ≡ false → IsOk a → IsAsked ghosts old q a new
       → HasCleanDisk (state ghosts new.store) → IsAtRest ghosts new

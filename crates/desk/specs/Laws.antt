@@ -28,6 +28,12 @@ OneMakes office (request ∷ requests) left = CarriesOut office request left ⊎
 abbrev pub IsOneOf : State → List Request → State → Type 0
 IsOneOf office requests left = (left ≡ office) ⊎ OneMakes office requests left
 
+-- What is pending after a request is what a crash may still carry out. After a change that was answered nothing is; after any other
+-- request, which leaves the office as it was, that request and what was pending before it.
+abbrev pub Pends : State → Request → Result Reply Refusal → State → List Request → List Request → Type 0
+Pends office request answer next before after =
+    ((changes_nothing office request ≡ false) × IsOk answer × (after ≡ [])) ⊎ ((next ≡ office) × (after ≡ request ∷ before))
+
 module _ {S : Type 0} (ghosts : Ghosts S) where
   -- The connection is open on a clean disk, its tables stand for the office, and a crash leaves what is seen and nothing else. So it is
   -- after an opening, and after an answered change.
@@ -77,12 +83,6 @@ module _ {S : Type 0} (ghosts : Ghosts S) where
     pub live : IsLive (state ghosts after.store)
     pub fit : IsFit after.office
 
-  -- What is pending after a request is what a crash may still carry out. After a change that was answered nothing is; after any other
-  -- request, which leaves the office as it was, that request and what was pending before it.
-  abbrev pub Pends : State → Request → Result Reply Refusal → State → List Request → List Request → Type 0
-  Pends office request answer next before after =
-      ((changes_nothing office request ≡ false) × IsOk answer × (after ≡ [])) ⊎ ((next ≡ office) × (after ≡ request ∷ before))
-
   -- from a desk at rest on these requests were asked, the last one first, with these answers; so these are pending
   abbrev pub IsReached : List Request → List (Result Reply Refusal) → List Request → DeskState S → Type 0
   IsReached [] [] pending desk = (pending ≡ []) × IsAtRest desk
@@ -91,6 +91,12 @@ module _ {S : Type 0} (ghosts : Ghosts S) where
       × Pends before.office request answer desk.office others pending
   IsReached [] (answer ∷ answers) pending desk = ⊥
   IsReached (request ∷ requests) [] pending desk = ⊥
+
+  -- one request more is asked of such a desk, and then that one and what was pending are pending, or nothing
+  abbrev pub AskReaches : Type 0
+  AskReaches = (requests : List Request) (answers : List (Result Reply Refusal)) (pending : List Request) (old new : DeskState S) (request : Request) (answer : Result Reply Refusal)
+      → IsReached requests answers pending old → IsAsked old request answer new
+      → (left : List Request) × IsReached (request ∷ requests) (answer ∷ answers) left new × ((left ≡ []) ⊎ (left ≡ request ∷ pending))
 
   -- after a crash then the office is opened that all answered requests left, or one that a pending request makes of it
   abbrev pub AnswersStay : Type 0

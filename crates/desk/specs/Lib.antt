@@ -5,4 +5,5 @@ pub mod Causes
 pub mod Saved
 pub mod Sessions
 pub mod Laws
+pub mod Lasting
 pub mod Inside

@@ -1,5 +1,5 @@
 -- How a request that was asked leaves the tables.
-use Rattle.std.specs.Prelude.{◌≡◌, IsTrue, IsErr, OnOk, None, false, Result}
+use Rattle.std.specs.Prelude.{◌≡◌, ◌^◌, IsTrue, IsErr, OnOk, None, false, Result}
 use Rattle.sqlite.specs.State.{State as Seen, HasCleanDisk, Survives}
 use Rattle.rolls.specs.State.{State}
 use Rattle.rolls.specs.declared.refusal.Refusal.{Refusal}
@@ -9,7 +9,7 @@ use Rattle.rolls.specs.declared.request.Request.{Request}
 use Rattle.rolls.specs.Reads.{changes_nothing}
 use Rattle.tables.specs.Causes.{IsCaused}
 use Rattle.tables.specs.Steps.{MayRecoverTo}
-use Rattle.store.specs.Available.{AreReady}
+use Rattle.store.specs.Available.{AreReady, LeavesRoom}
 use Rattle.store.specs.Saving.{AreActedOn}
 use Rattle.tables.specs.Ours.{IsOurs}
 use Rattle.store.specs.Tables.{LeavesAlone}
@@ -32,5 +32,5 @@ pub record IsSaved (office : State) (request : Request) (answer : Result Reply R
   pub cause : (AreActedOn old.now.schema → ⊥) → IsCaused Storage (IsHinderedToAsk office request) answer old new
   -- over tables as they are made here, with rowids left, only a shut connection or a fault of the disk
   pub available : old.step_limit ≡ None → AreReady old.now → IsCaused Storage (λ _ _. ⊥) answer old new
-  -- tables as they are made here stay so
-  pub ours : IsOurs old.now → HasCleanDisk new → IsTrue new.is_open → IsOurs new.now
+  -- tables as they are made here stay so, and the request takes no more rowids than it was asked to leave
+  pub ours : IsOurs old.now → HasCleanDisk new → IsTrue new.is_open → IsOurs new.now × LeavesRoom (2 ^ 20) old.now new.now

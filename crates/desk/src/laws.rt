@@ -1,6 +1,7 @@
 //! Laws that the words of the contracts keep: functions with nothing to do, whose contracts are the laws.
 
-ghost use Rattle.desk.specs.Laws.{AnswersStay, AskIsWhole, IsFoundWhole, RestIsKept, RunIsWhole};
+ghost use Rattle.desk.specs.Lasting.{AskLasts};
+ghost use Rattle.desk.specs.Laws.{AnswersStay, AskIsWhole, AskReaches, IsFoundWhole, RestIsKept, RunIsWhole};
 
 use sqlite::Alter;
 
@@ -15,8 +16,16 @@ pub fn crash_law<S: Alter>()
     ensures rest { RestIsKept S.Store }
     ensures ask { AskIsWhole S.Store }
     ensures run { RunIsWhole S.Store }
+    ensures reaches { AskReaches S.Store }
     ensures answered { AnswersStay S.Store }
     ensures whole { IsFoundWhole S.Store }
 {
     store::opening_law();
+}
+
+/// A desk that is ready for some requests, since its tables are as they are made here and have rowids left, refuses none of them for
+/// the database's own reasons: each leaves it ready for the others.
+pub fn lasting_law<S: Alter>()
+    ensures { AskLasts S.Store }
+{
 }

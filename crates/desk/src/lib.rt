@@ -19,4 +19,4 @@ mod persistent;
 mod sessions;
 
 pub use desk::Desk;
-pub use laws::crash_law;
+pub use laws::{crash_law, lasting_law};

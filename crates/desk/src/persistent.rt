@@ -11,8 +11,7 @@ ghost use Rattle.rolls.specs.Run.{Makes, MayRefuse, Step, refusal};
 ghost use Rattle.outside.specs.Changes.{MayChange};
 ghost use Rattle.outside.specs.Layers.{layers};
 ghost use Rattle.desk.specs.Keeping.{Keeps};
-ghost use Rattle.store.specs.Causes.{IsHinderedAmong};
-ghost use Rattle.store.specs.Saving.{AreActedOn, Saves};
+ghost use Rattle.store.specs.Saving.{AreActedOn};
 ghost use Rattle.desk.specs.Saved.{IsSaved};
 ghost use Rattle.desk.specs.Inside.Saved.{HasSettled};
 
@@ -127,7 +126,7 @@ impl<S: Alter> PersistentOffice<S> {
         ensures ok { IfOk result (λ reply. (reply ≡ done.reply) × (self.new.office ≡ next.old)) }
         ensures err { IfErr result (λ refusal. ((refusal ≡ Refusal.Memory) ⊎ (refusal ≡ Refusal.Storage)) × (self.new.office ≡ self.old.office)) }
         ensures tables { Keeps (state S.Store self.new.store) self.new.office }
-        ensures saved { let changes = done.changes in HasSettled (Saves changes.items) (IsHinderedAmong changes.items) result (state S.Store self.old.store) (state S.Store self.new.store) }
+        ensures saved { let changes = done.changes in HasSettled changes.items result (state S.Store self.old.store) (state S.Store self.new.store) }
         ensures acted_on { AreActedOn (state S.Store self.old.store).now.schema → result ≡ Err Refusal.Storage }
     {
         match self.store.save(&done.changes) {

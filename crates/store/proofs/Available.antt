@@ -26,6 +26,7 @@ use Rattle.tables.proofs.Stored.{AgreesAt, IsTyped, aim_checked, aim_typed, choi
 use Rattle.tables.proofs.Taken.{IsGood, IsUnshared, in_place, none_goes, one_more, some_go, stored}
 use Rattle.store.specs.Inside.Saving.{AppliesOne}
 use Rattle.store.proofs.Held.{applies_one}
+use Rattle.store.specs.Available.{LeavesRoom}
 use Rattle.store.specs.Rows.{IsAmong, IsRollTable, value_of, values}
 use Rattle.store.proofs.Among.{in_rolls, part_in_rolls, row_in_rolls}
 use Rattle.store.proofs.Begins.{begins_same}
@@ -492,9 +493,15 @@ run_taken (c ∷ cs) rows db sound ours few room t allowed fresh (inr (mid, did,
     let left = change_made db sound ours rows t mid c did in
     run_taken cs (after_change c rows) mid left.sound left.ours (omega (arith, few)) (left.room allowed.0 (length cs) (omega (arith, few)) room) left.holds allowed.1 fresh.1 hindered
 
--- and all of them leave ours
-pub run_ours : (changes : List Change) (rows : AllRows) (db now : Database) → IsDatabase db → IsOurs db → TablesHold db rows → (let all = each_of applying changes in all.does db now) → IsOurs now
-run_ours [] rows db now sound ours t same = subst IsOurs (sym same) ours
+-- and all of them leave ours, and room for all rows but theirs
+pub run_ours : (changes : List Change) (rows : AllRows) (db now : Database) → IsDatabase db → IsOurs db → TablesHold db rows → (let all = each_of applying changes in all.does db now)
+    → IsOurs now × (AreAllowed changes rows → LeavesRoom (length changes) db now)
+run_ours [] rows db now sound ours t same =
+    (subst IsOurs (sym same) ours, λ allowed count few room. subst (HasRoom count) (sym same) (room_for count (0 + count) db (omega arith) room))
 run_ours (c ∷ cs) rows db now sound ours t (mid, did, more) =
     let left = change_made db sound ours rows t mid c did in
-    run_ours cs (after_change c rows) mid now left.sound left.ours left.holds more
+    let rest = run_ours cs (after_change c rows) mid now left.sound left.ours left.holds more in
+    let few : (count : ℕ) → suc (length cs) + count ≤ 2 ^ 62 → length cs + count ≤ 2 ^ 62 = λ count low. omega (arith, low) in (
+      rest.0,
+      λ allowed count low room. rest.1 allowed.1 count (few count low) (left.room allowed.0 (length cs + count) (few count low) (room_for (suc (length cs + count)) (suc (length cs) + count) db (omega arith) room)),
+    )

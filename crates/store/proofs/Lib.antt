@@ -1,5 +1,5 @@
 mod Common
-mod Available
+pub mod Available
 mod Among
 mod OtherNames
 mod MigratingRows

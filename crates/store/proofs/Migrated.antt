@@ -177,8 +177,8 @@ rises_by e changes a d none (b, numbered_so, (c, tables, changed)) asks rows t =
           let entered = stays_entered a ours Edition place t.editions.listed b InPlace (values (key_in Edition latest_number)) (values latest_number) (1, refl) (numbered (number_of e)) t.editions numbered_so in
           let it = numbered_so place (numbered (number_of e)) (alone place t.editions.listed) t.editions in
           let is : IsMade a b (changing (table_at Edition place) it.0 (map (replacing (table_at Edition place) (values latest_number)) it.0)) = it.2 in
-          let founded = founded_all (beyond e) b c tables (record { sound = is.0; ours = entered.0; uncounted = subst (λ (s : Schema). list_any (λ (t : AnyTable). t.is_counted) s.tables ≡ false) (sym here.1) uncounted }) in
-          run_ours changes rows c d founded.sound founded.ours all changed,
+          let founded = (founded_all (beyond e) b c tables (record { sound = is.0; ours = entered.0; uncounted = subst (λ (s : Schema). list_any (λ (t : AnyTable). t.is_counted) s.tables ≡ false) (sym here.1) uncounted })).0 in
+          (run_ours changes rows c d founded.sound founded.ours all changed).0,
     )
 
 -- tables that pass the test are not acted on

@@ -1,10 +1,12 @@
 -- The tables that were made stand for the empty office.
-use Rattle.store.proofs.Common.{Database, Schema, AnyTable, Seen, Trees, Value, Has, all_has, has_either, has_got, rows_in, State, empty, Table, Edition, Supervisor, Place, Lists, rules_of, table_at, Stands, Creates, Adds, MayRecoverTo, listed_once, stands_apart, stands_beside, decide_table, latest, number_of, all_tables, rolls, values, AreRuled, Brings, MakesTables, StandsFor, HasNone, Opens, numbered, ◌≡◌, ◌≢◌, ◌⊎◌, ◌++◌, List, [], ◌∷◌, inl, inr, map, refl, sym, ap, subst, ◌∙◌, New, each_of, making, key_in, enters, stays_entered, did_all, creating, latest_number}
+use Rattle.store.proofs.Common.{Database, Schema, AnyTable, Seen, Trees, Value, Has, all_has, has_either, has_got, rows_in, State, empty, Table, Edition, Supervisor, Place, Lists, rules_of, table_at, Stands, Creates, Adds, MayRecoverTo, listed_once, stands_apart, stands_beside, decide_table, latest, number_of, all_tables, rolls, values, AreRuled, Brings, MakesTables, StandsFor, HasNone, Opens, numbered, ◌≡◌, ◌≢◌, ◌⊎◌, ◌++◌, List, [], ◌∷◌, inl, inr, map, refl, sym, ap, subst, ◌∙◌, New, each_of, making, key_in, enters, stays_entered, did_all, creating, latest_number, ℕ, suc, ◌+◌, list_any, arith, IsDatabase, false}
 use Rattle.store.specs.Tables.{AreRuledAmong, LeavesTables}
 use Rattle.store.specs.Inside.Saving.{Empties}
 use Rattle.store.proofs.Among.{apart_edition, stands_among}
 use Rattle.tables.proofs.Founding.{IsFounding, founded}
-use Rattle.store.specs.Available.{KeepsOurs}
+use Rattle.tables.specs.Ours.{HasRoom, IsOurs}
+use Rattle.store.specs.Available.{LeavesRoom}
+use Rattle.store.proofs.Available.{room_for}
 
 -- the empty office has no rows
 no_rows : (table : Table) → rows_in empty table ≡ []
@@ -115,19 +117,28 @@ creates a c (b, made, numbered_so) =
     let q : Adds (table_at Edition) (values latest_number) b c = enters Edition latest_number refl New b c numbered_so in
     (empty_stands (values latest_number) refl a b c p q, ruled_so (values latest_number) a b c p q, others_stay (values latest_number) a b c p q)
 
--- tables that are made leave a database ours,
-pub founded_all : (tables : List Table) (old new : Database) → (let all = each_of making tables in all.does old new) → IsFounding old → IsFounding new
-founded_all tables old new = did_all making (λ done a b. IsFounding a → IsFounding b) (λ done q a b c p one f. founded b c (p f) q one.1) tables old new (λ f. f)
+-- a database stays ours, and takes no rowid
+abbrev Founds : Database → Database → Type 0
+Founds old new = IsFounding old → IsFounding new × ((count : ℕ) → HasRoom count old → HasRoom count new)
 
--- and so does their edition
-pub creates_ours : (old new : Database) → creating.does old new → KeepsOurs old new
+founds_then : (a b c : Database) → Founds a b → Founds b c → Founds a c
+founds_then a b c first second f = let one = first f in let two = second one.0 in (two.0, λ count room. two.1 count (one.1 count room))
+
+-- tables that are made leave a database ours,
+pub founded_all : (tables : List Table) (old new : Database) → (let all = each_of making tables in all.does old new) → Founds old new
+founded_all tables old new = did_all making (λ done a b. Founds a b) (λ done q a b c p one. founds_then a b c p (λ f. founded b c f q one.1)) tables old new (λ f. (f, λ count room. room))
+
+-- and so does their edition, which takes one rowid
+pub creates_ours : (old new : Database) → creating.does old new → IsDatabase old → IsOurs old → list_any (λ (t : AnyTable). t.is_counted) old.schema.tables ≡ false → IsOurs new × LeavesRoom 1 old new
 creates_ours a c (b, made, numbered_so) sound ours uncounted =
-    let it = founded_all all_tables a b made (record { sound = sound; ours = ours; uncounted = uncounted }) in
+    let all = founded_all all_tables a b made (record { sound = sound; ours = ours; uncounted = uncounted }) in
+    let it = all.0 in
     let m = made_all all_tables a b made in
     let first : Has all_tables Edition = inl refl in
     let stands = m.stand Edition first in
     let key = values (key_in Edition latest_number) in
-    (stays_entered b it.ours Edition (m.places Edition) stands.listed c New key (values latest_number) (1, refl) [] stands numbered_so).0
+    let entered = stays_entered b it.ours Edition (m.places Edition) stands.listed c New key (values latest_number) (1, refl) [] stands numbered_so in
+    (entered.0, λ count few room. entered.1 (λ n is. let one : 1 ≡ n = cc in omega (arith, one)) count (omega (arith, few)) (all.1 (suc count) (room_for (suc count) (1 + count) a (omega arith) room)))
 
 -- the tables were made where there were none
 pub opens_new : (old new : Database) (office : State) → HasNone old.schema → office ≡ empty → creating.does old new → Opens old new office

@@ -72,7 +72,7 @@ checked tree = refl
 makes_them : (db : Database) → IsDatabase db → db.schema ≡ nothing_made → creating.hinders None db → ⊥
 makes_them db sound is (inl hindered) = none_unmade all_tables nothing_made db None is all_clear hindered
 makes_them db sound is (inr (mid, made, hindered)) =
-    let it = founded_all all_tables db mid made (founding db sound (ap (λ (s : Schema). s.tables) is)) in
+    let it = (founded_all all_tables db mid made (founding db sound (ap (λ (s : Schema). s.tables) is))).0 in
     let m = made_all all_tables db mid made in
     let place = λ (table : Table). m.places table in
     let stands = λ (table : Table) (among : Has all_tables table). m.stand table among in

@@ -4,7 +4,7 @@ use Rattle.store.specs.Common.{Held, state, HasCleanDisk, Survives, State, IsSto
 use Rattle.store.specs.Causes.{IsHinderedOpening}
 use Rattle.store.specs.Reading.{IsDamaged}
 use Rattle.store.specs.Tables.{Brings, HasNone, LeavesAlone, LeavesTables, Opens}
-use Rattle.store.specs.Available.{KeepsOurs}
+use Rattle.store.specs.Available.{KeepsOurs, KeepsRoom}
 
 module _ {S : Type 0} (ghosts : Ghosts S) where
   -- this office was opened, over a connection that has no transaction open
@@ -12,6 +12,8 @@ module _ {S : Type 0} (ghosts : Ghosts S) where
     pub office : HasCleanDisk (state ghosts new) → Opens (state ghosts old).now (state ghosts new).now opened
     -- tables as they are made here are so still, with those that are made, and those of an earlier edition once they are migrated
     pub ours : HasCleanDisk (state ghosts new) → KeepsOurs (state ghosts old).now (state ghosts new).now
+    -- and where they are made, with rowids left as before, but for one
+    pub room : HasCleanDisk (state ghosts new) → HasNone (state ghosts old).now.schema → KeepsRoom (state ghosts old).now (state ghosts new).now
     -- each other table stays
     pub others : HasCleanDisk (state ghosts new) → LeavesTables (state ghosts old).now (state ghosts new).now
     pub ended : new.in_transaction ≡ false

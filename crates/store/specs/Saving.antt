@@ -62,7 +62,7 @@ Applies changes old new =
 pub record IsSaving (changes : List Change) (old new : Seen) : Type 0 where
   pub saved : HasSaved (Saves changes) old new
   pub others : LeavesOthers old.now new.now
-  pub ours : StaysOurs old.now new.now
+  pub ours : StaysOurs changes old.now new.now
   pub alone : LeavesAlone new
 
 -- What a call over the tables keeps: with a fault nothing has changed, no transaction is left open, and one that is open already is a

@@ -1,13 +1,13 @@
 //! The store.
 
 ghost use Rattle.std.specs.Prelude.{◌≡◌, ◌≢◌, IsTrue, false, Err, IfOk, IfErr, IsErr, OnOk, OnErr};
-ghost use Rattle.store.specs.Common.{HasCleanDisk, IsLive, Survives, state, IsKept, MayRecoverTo, IsCaused};
-ghost use Rattle.store.specs.Causes.{IsHinderedAmong};
-ghost use Rattle.store.specs.Editions.{IsEarlier, latest};
+ghost use Rattle.store.specs.Common.{HasCleanDisk, IsLive, IsReading, Survives, state, IsKept, MayRecoverTo, IsCaused};
+ghost use Rattle.store.specs.Causes.{IsHinderedAmong, IsHinderedReading};
+ghost use Rattle.store.specs.Editions.{IsEarlier, latest, rolls_of};
 ghost use Rattle.store.specs.Inside.Reading.{IsEditionOf};
-ghost use Rattle.store.specs.Tables.{HasNone};
+ghost use Rattle.store.specs.Tables.{HasNone, StandsFor};
 ghost use Rattle.store.specs.Opening.{IsOpening, IsLeftUnopened};
-ghost use Rattle.store.specs.Reading.{AreListed};
+ghost use Rattle.store.specs.Reading.{AreAllListed, AreListed, IsUnfitIn};
 ghost use Rattle.store.specs.Saving.{AreActedOn, IsSafe, IsSaving, Saves};
 
 use crate::all_tables::MIGRATED;
@@ -142,6 +142,25 @@ impl<S: Alter> Store<S> {
             Ok(office) => Ok((Store { conn, alloc }, office)),
             Err(fault) => Err((fault, conn)),
         }
+    }
+
+    /// Reads the office that the tables stand for, in the latest edition. `Damaged`: they stand for none. A transaction that is open
+    /// already is a fault of the storage. Nothing changes.
+    pub fn load(&mut self) -> Result<Office, StoreFault>
+        ensures ok { HasCleanDisk (state S.Store self.new) → IfOk result (StandsFor (state S.Store self.old).now) }
+        ensures damaged { HasCleanDisk (state S.Store self.new) → result ≡ Err StoreFault.Damaged
+            → IsUnfitIn latest (state S.Store self.old).now }
+        ensures unlisted { self.old.in_transaction ≡ false → (AreAllListed (rolls_of latest) (state S.Store self.old).now.schema → ⊥)
+            → result ≡ Err StoreFault.Damaged }
+        ensures reads { self.old.in_transaction ≡ false
+            → IsReading StoreFault.Storage IsHinderedReading result (state S.Store self.old) (state S.Store self.new) }
+        ensures begun { IsTrue self.old.in_transaction → (result ≡ Err StoreFault.Storage) × (self.new ≡ self.old) }
+    {
+        if !self.conn.is_autocommit() {
+            return Err(StoreFault::Storage);
+        }
+        let (office, _) = office_in(self.alloc, &mut self.conn, LATEST)?;
+        Ok(office)
     }
 
     /// Makes the changes in one transaction, which touches only the rows that they name.

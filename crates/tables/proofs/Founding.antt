@@ -1,5 +1,5 @@
 -- A database of ours in which tables of ours are made is one of ours still.
-use Rattle.tables.proofs.Common.{AllByRecursion, list_any, and_left, or_from, Int, Row, rowid, IsAscending, Has, has_either, all_has, table_below, created, next_tree, AnyTable, Schema, Database, IsDatabase, Ours, Place, made_here, table_at, IsTableMade, ◌≡◌, ◌⊎◌, inl, inr, ℕ, suc, ◌+◌, ◌<◌, pos, List, [], ◌∷◌, ◌++◌, slice_get, Some, false, refl, sym, ap, subst, ◌∙◌, arith, list_any-append, IsTable, KeepsRows, automatics, IsIndexRow, automatic, Index, IsOurs, IsOwnIndex}
+use Rattle.tables.proofs.Common.{AllByRecursion, list_any, and_left, or_from, Int, Row, rowid, IsAscending, Has, has_either, all_has, table_below, created, next_tree, AnyTable, Schema, Database, IsDatabase, Ours, Place, made_here, table_at, IsTableMade, ◌≡◌, ◌⊎◌, inl, inr, ℕ, suc, ◌+◌, ◌<◌, ◌^◌, pos, List, [], ◌∷◌, ◌++◌, slice_get, Some, false, refl, sym, ap, subst, ◌∙◌, arith, list_any-append, IsTable, KeepsRows, automatics, IsIndexRow, automatic, Index, HasRoom, IsOurs, IsOwnIndex}
 use Rattle.sqlite_catalog.proofs.LayoutLemmas.{index_owner, zipped_left}
 use Rattle.sqlite_catalog.proofs.ListFacts.{ascending_push}
 use Rattle.tables.proofs.Ours.{along}
@@ -102,12 +102,17 @@ module _ (db now : Database) (it : IsFounding db) (table : Ours) (made : IsTable
       rise = each IsTable tt it.ours.rise;
     })
 
-  -- and where one more was made
-  pub founded : IsFounding now
+    has_room : (count : ℕ) → HasRoom count db → HasRoom count now
+    has_room count room = along (HasRoom count) after now same (each (AllByRecursion (λ r. (n : ℕ) → rowid r ≡ Int (pos n) → n + count < 2 ^ 63)) tt room)
+
+  -- and where one more was made, which takes no rowid
+  pub founded : IsFounding now × ((count : ℕ) → HasRoom count db → HasRoom count now)
   founded =
-      let so = made (and_left _ _ uncounted) in
-      record {
-        sound = so.0;
-        ours = stays so.1 so.2 so.3;
-        uncounted = ap (λ (s : Schema). list_any (λ (t : AnyTable). t.is_counted) s.tables) so.1 ∙ uncounted;
-      }
+      let so = made (and_left _ _ uncounted) in (
+        record {
+          sound = so.0;
+          ours = stays so.1 so.2 so.3;
+          uncounted = ap (λ (s : Schema). list_any (λ (t : AnyTable). t.is_counted) s.tables) so.1 ∙ uncounted;
+        },
+        has_room so.1 so.2 so.3,
+      )

@@ -1,3 +1,4 @@
 pub mod OneConnection
 pub mod Seen
 pub mod OneMessage
+pub mod Streams

@@ -1,2 +1,3 @@
 pub mod Serving
 pub mod Connections
+pub mod Laws

@@ -12,7 +12,7 @@ use Rattle.rolls.specs.Run.{Step}
 use Rattle.solver.specs.SessionState.{SessionState}
 use Rattle.outside.specs.Layers.{layers}
 use Rattle.desk.specs.DeskState.{DeskState}
-use Rattle.desk.specs.Saved.{IsSaved}
+use Rattle.desk.specs.Laws.{IsAsked}
 use Rattle.desk.specs.Sessions.{AnswersAtOnce, GoesOn}
 use Rattle.wire.specs.declared.outcome.End.{End}
 use Rattle.wire.specs.declared.outcome.End.TheVariants.{Closed, Unfinished, BadHead, TooLarge, Hundred}
@@ -62,7 +62,7 @@ module _ {S : Type 0} (ghosts : Ghosts S) where
   -- The same where its tables are kept: what a crash leaves, that an answered change has its tables alone, and why the storage has failed.
   pub record GetsAt (before : DeskState S) (asked : Request) (answer : Result Reply Refusal) (after : DeskState S) : Type 0 where
     pub gets : Gets (at_desk before) asked answer (at_desk after)
-    pub saved : IsSaved before.office asked answer (state ghosts before.store) (state ghosts after.store)
+    pub asking : IsAsked ghosts before asked answer after
 
   -- a message is answered so, and a disk that is clean after it was clean before it
   pub record AnswersFrom (before : DeskState S) (said : MessageText) (bytes : List ℕ) (after : DeskState S) : Type 0 where

@@ -4,13 +4,16 @@
 //! an answer is written. Here each message is asked of the desk.
 //!
 //! Promised: `serve_stream` writes the texts of the answers of a run of the office over the requests of the
-//! messages of the stream. The words that put both together are in `specs/Serving.antt`; begin there.
+//! messages of the stream. The words that put both together are in `specs/Serving.antt`; begin there. `stream_law` says what a crash leaves
+//! of a stream, and that it stays available.
 #![tactic(auto)]
 
 mod connections;
+mod laws;
 mod service;
 
 pub use api::{push, push_labelled, push_number};
 pub use connections::{OutFault, serve_on};
+pub use laws::stream_law;
 pub use service::serve_stream;
 pub use wire::{End, Served, ShortText, Sink, Source, StreamFault, Watched, write_all};

@@ -36,7 +36,12 @@ impl<S: Alter> Handler<Desk<S>> for OfficeHandler {
     fn answer(&self, desk: &mut Desk<S>, method: &[u8], target: &[u8], body: &[u8]) -> Answer {
         match self.routes.request(method, target, body) {
             Err(refusal) => Answer::Short(refusal_answer(refusal)),
-            Ok(request) => answer_of(self.alloc, desk.ask(request)),
+            Ok(request) => {
+                let answer = desk.ask(request);
+                // What a desk keeps between requests is a part of the step.
+                desk.keeps();
+                answer_of(self.alloc, answer)
+            }
         }
     }
 

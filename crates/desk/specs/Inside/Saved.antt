@@ -1,21 +1,22 @@
 -- For proofs alone. How changes that were saved or refused leave the tables.
-use Rattle.std.specs.Prelude.{ℕ, IsTrue, IsErr, OnOk, Option, Result}
-use Rattle.sqlite.specs.Effect.{Database}
+use Rattle.std.specs.Prelude.{IsTrue, IsErr, List, OnOk, Result}
 use Rattle.sqlite.specs.State.{State as Seen, HasCleanDisk, Survives}
 use Rattle.tables.specs.Causes.{IsCaused}
 use Rattle.tables.specs.Steps.{MayRecoverTo}
+use Rattle.row_model.specs.declared.row.Change.{Change}
 use Rattle.rolls.specs.declared.refusal.Refusal.{Refusal}
 use Rattle.rolls.specs.declared.refusal.Refusal.TheVariants.{Storage}
 use Rattle.rolls.specs.declared.request.Reply.{Reply}
 use Rattle.store.specs.Available.{StaysOurs}
-use Rattle.store.specs.Saving.{AreActedOn}
+use Rattle.store.specs.Causes.{IsHinderedAmong}
+use Rattle.store.specs.Saving.{AreActedOn, Saves}
 use Rattle.store.specs.Tables.{LeavesAlone}
 
--- The tables of the one state become those of the other, where that is what the change leaves of the first and hinders it thus.
-pub record HasSettled (Leaves : Database → Database → Type 0) (Hinders : Option ℕ → Database → Type 0) (answer : Result Reply Refusal) (old new : Seen) : Type 0 where
-  -- a crash leaves what it could leave before, or what the change leaves
-  pub crash : Survives old new (MayRecoverTo Leaves old)
-  -- an answered change leaves its own tables alone, over a connection that is open
+-- The tables of the one state become those of the other by changes that were to be saved.
+pub record HasSettled (changes : List Change) (answer : Result Reply Refusal) (old new : Seen) : Type 0 where
+  -- a crash leaves what it could leave before, or what the changes leave
+  pub crash : Survives old new (MayRecoverTo (Saves changes) old)
+  -- where they are saved it leaves their tables alone, over a connection that is open
   pub alone : HasCleanDisk new → OnOk answer (LeavesAlone new)
   pub stays_open : HasCleanDisk new → OnOk answer (IsTrue new.is_open)
   -- one that is shut stays shut
@@ -23,6 +24,6 @@ pub record HasSettled (Leaves : Database → Database → Type 0) (Hinders : Opt
   -- where a foreign key would write other rows too, no change is made
   pub acted_on : AreActedOn old.now.schema → IsErr answer
   -- why else the storage has failed
-  pub cause : (AreActedOn old.now.schema → ⊥) → IsCaused Storage Hinders answer old new
+  pub cause : (AreActedOn old.now.schema → ⊥) → IsCaused Storage (IsHinderedAmong changes) answer old new
   -- tables as they are made here stay so
-  pub stays : HasCleanDisk new → IsTrue new.is_open → StaysOurs old.now new.now
+  pub stays : HasCleanDisk new → IsTrue new.is_open → StaysOurs changes old.now new.now

@@ -1,6 +1,6 @@
 use Rattle.desk.proofs.Common.{Begins}
 use Rattle.desk.proofs.AfterCrash.{rest_kept, call_whole, ask_whole}
-use Rattle.desk.proofs.Reached.{answers_stay, found_whole}
+use Rattle.desk.proofs.Reached.{answers_stay, ask_reaches, found_whole}
 use Rattle.desk.proofs.laws.crash_law.Goals as goal
 
 pub returns-clause-rest : goal.returns-clause-rest
@@ -11,6 +11,9 @@ returns-clause-ask g c = ask_whole g.S.Store c.opening_law.ensures
 
 pub returns-clause-run : goal.returns-clause-run
 returns-clause-run g c = λ old new refused requests answers. call_whole g.S.Store c.opening_law.ensures (Begins old.office requests answers) old new refused
+
+pub returns-clause-reaches : goal.returns-clause-reaches
+returns-clause-reaches g c = ask_reaches g.S.Store
 
 pub returns-clause-answered : goal.returns-clause-answered
 returns-clause-answered g c = answers_stay g.S.Store c.opening_law.ensures

@@ -79,6 +79,7 @@ returns-clause-opened g c =
     record {
       office = λ clean. (opens clean).0;
       ours = λ clean. (opens clean).2;
+      room = λ clean none. absurd (c.requires.edition.some none);
       others = λ clean. (opens clean).1;
       ended = c.transact.ensures.safe.ended (c.office_in.ensures.reads.ended c.requires.idle);
       alone = λ clean trees h.

@@ -21,6 +21,7 @@ pub returns-clause-opened : goal.returns-clause-opened
 returns-clause-opened g c = let whole = c.requires.whole in record {
   office = λ clean. opens_found latest c.in_ok-read.read _ _ _ refl (c.in_ok-read.ensures.ok clean);
   ours = λ clean sound is uncounted. subst IsOurs (sym (c.in_ok-read.ensures.ok clean).same.0.now_is) is;
+  room = λ clean none. absurd (c.requires.edition.some none);
   others = λ clean. others_kept _ _ (c.in_ok-read.ensures.ok clean).same.0.now_is;
   ended = c.office_in.ensures.reads.ended c.requires.idle;
   alone = λ clean trees h.

@@ -1,4 +1,4 @@
-use Rattle.store.proofs.Common.{survives_weaker, Storage, stopped_as, IsHinderedOpening, ◌≡◌, Err, inl, rules, creating}
+use Rattle.store.proofs.Common.{survives_weaker, Storage, stopped_as, IsHinderedOpening, state, ◌≡◌, Err, inl, rules, creating}
 use Rattle.store.proofs.NewTables.{opens_new, founds_left, founds_others, creates_ours}
 use Rattle.store.proofs.Opening.{unopened_by}
 use Rattle.store.proofs.store.open_new.Goals as goal
@@ -19,7 +19,8 @@ returns-in_err-transact-clause-unopened g c = unopened_by _ _ _ (record {
 pub returns-clause-opened : goal.returns-clause-opened
 returns-clause-opened g c = record {
   office = λ clean. opens_new _ _ _ c.requires.none c.new.ensures.empty (search rules);
-  ours = λ clean. creates_ours _ _ (search rules);
+  ours = λ clean sound ours uncounted. (creates_ours (state g.S.Store c.args.conn.now).now (state g.S.Store c.transact.new.conn).now (search rules) sound ours uncounted).0;
+  room = λ clean none sound ours uncounted. (creates_ours (state g.S.Store c.args.conn.now).now (state g.S.Store c.transact.new.conn).now (search rules) sound ours uncounted).1;
   others = λ clean. founds_others _ _ (search rules);
   ended = c.transact.ensures.safe.ended c.requires.idle;
   alone = λ clean trees h. search rules;

@@ -40,6 +40,7 @@ returns-clause-saved g c =
     let none = subst (λ (o : State). refusal layers o q ≡ None) same c.in-Ok.ensures.made.0 in
     let transforms = subst (λ (o : State). Transforms done.changes.items o next) same c.in-Ok.ensures.transforms in
     let may = subst (λ (o : State). MayChange o q done.changes.items) same c.in-Ok.ensures.changes in
+    let few = may_allowed old q done.changes.items c.keeps.ensures.fit none may in
     record {
       crash = call_carried q old next done (state g.S.Store c.args.self.now.store) (state g.S.Store c.exchange.new.self.store) none made c.fit.ensures.fit transforms c.keeps.ensures.tables saved.crash;
       alone = λ _. saved.alone;
@@ -48,8 +49,8 @@ returns-clause-saved g c =
       acted_on = λ _. saved.acted_on;
       cause = λ quiet. hindered_by Storage c.exchange.result old next q done (state g.S.Store c.args.self.now.store) (state g.S.Store c.exchange.new.self.store) (done.reply, (none, made)) may transforms (saved.cause quiet);
       available = available_so old done.changes.items c.available_law.ensures c.exchange.result (state g.S.Store c.args.self.now.store) (state g.S.Store c.exchange.new.self.store) c.keeps.ensures.fit c.keeps.ensures.tables c.keeps.ensures.live
-          (may_allowed old q done.changes.items c.keeps.ensures.fit none may) transforms.fresh (λ clean. omega (arith, saved.crash.clean, clean)) saved.cause;
-      ours = ours_so old (state g.S.Store c.args.self.now.store) (state g.S.Store c.exchange.new.self.store) c.keeps.ensures.tables c.keeps.ensures.live (λ clean. omega (arith, saved.crash.clean, clean)) saved.stays_shut saved.stays;
+          few transforms.fresh (λ clean. omega (arith, saved.crash.clean, clean)) saved.cause;
+      ours = ours_so old done.changes.items (state g.S.Store c.args.self.now.store) (state g.S.Store c.exchange.new.self.store) c.keeps.ensures.tables c.keeps.ensures.live few (λ clean. omega (arith, saved.crash.clean, clean)) saved.stays_shut saved.stays;
     }
 
 pub returns-in-Err-clause-saved : goal.returns-in-Err-clause-saved

@@ -1,10 +1,11 @@
-use Rattle.std.proofs.Common.{◌≡◌, List, Err, Result, IsTrue, refl, sym, ap, subst, ◌∙◌}
+use Rattle.std.proofs.Common.{◌≡◌, ◌+◌, arith, length, List, Err, Result, IsTrue, refl, sym, ap, subst, ◌∙◌}
 use Rattle.desk.proofs.Common.{Seen, Survives, state, MayRecoverTo, Change, State, Transforms, Refusal, TheStorage, Reply, StoreFault, AreActedOn, Saves, HasCleanDisk, TheDamaged, TheMemory, Damaged, Memory, IsHinderedAmong, IsStopped}
 use Rattle.store.specs.declared.fault.StoreFault.TheVariants.{Storage}
 use Rattle.desk.proofs.SavedRows.{saved_keeps, kept_keeps}
 use Rattle.desk.proofs.SavedRows.{was_storage}
 use Rattle.store.specs.Available.{StaysOurs}
-use Rattle.tables.specs.Ours.{IsOurs}
+use Rattle.store.proofs.Available.{room_for}
+use Rattle.tables.specs.Ours.{HasRoom, IsOurs}
 use Rattle.desk.proofs.persistent.PersistentOffice.exchange.Goals as goal
 
 -- changes that transform an office into the next one transform it into what the next one is exchanged for
@@ -35,9 +36,15 @@ left_of : (given changes : List Change) (before seen : Seen) (new : Seen) → gi
 left_of given changes before seen new e f h = rw (← e, ← f) h
 
 -- nothing has changed
-stays_same : (before seen new : Seen) → before ≡ seen → new.now ≡ before.now → StaysOurs seen.now new.now
+stays_same : (changes : List Change) (before seen new : Seen) → before ≡ seen → new.now ≡ before.now → StaysOurs changes seen.now new.now
 unfolding StaysOurs
-stays_same before seen new e same rows sound ours t = subst IsOurs (ap (λ (s : Seen). s.now) (sym e) ∙ sym same) ours
+stays_same changes before seen new e same rows sound ours t =
+    let is = ap (λ (s : Seen). s.now) (sym e) ∙ sym same in
+    (subst IsOurs is ours, λ allowed count few room. subst (HasRoom count) is (room_for count (length changes + count) seen.now (omega arith) room))
+
+-- what was saved leaves tables of ours as it does
+stays_as : (given changes : List Change) (before seen new : Seen) → given ≡ changes → before ≡ seen → StaysOurs given before.now new.now → StaysOurs changes seen.now new.now
+stays_as given changes before seen new e f h = rw (← e, ← f) h
 
 pub returns-in-Err-clause-tables : goal.returns-in-Err-clause-tables
 returns-in-Err-clause-tables g c =
@@ -77,7 +84,7 @@ returns-in-Ok-clause-saved g c =
       stays_shut = λ clean up. shut_so _ _ before ((c.in-Ok.ensures.saved clean).saved.shown.was_open);
       acted_on = λ acted. absurd (let failed = c.in-Ok.ensures.acted_on (subst (λ (z : Seen). AreActedOn z.now.schema) (sym before) acted) in cc);
       cause = λ quiet clean told. absurd (cc);
-      stays = λ clean up. subst (λ (s : Seen). StaysOurs s.now (state g.S.Store c.save.new.self).now) before (c.in-Ok.ensures.saved clean).ours;
+      stays = λ clean up. stays_as c.deref.result.now c.args.done.changes.items (state g.S.Store c.self.inside.store) (state g.S.Store c.args.self.now.store) (state g.S.Store c.save.new.self) c.deref.ensures.value before (c.in-Ok.ensures.saved clean).ours;
     }
 
 pub returns-in-Err-clause-saved : goal.returns-in-Err-clause-saved
@@ -91,5 +98,5 @@ returns-in-Err-clause-saved g c =
       acted_on = λ _. refl;
       cause = caused_so c.deref.result.now c.args.done.changes.items (state g.S.Store c.self.inside.store) (state g.S.Store c.args.self.now.store) (state g.S.Store c.save.new.self) c.in-Err.fault c.refusal_of_fault.result c.deref.ensures.value
           before c.refusal_of_fault.ensures.memory c.refusal_of_fault.ensures.damaged (c.in-Err.ensures.cause c.self.invariant.ended);
-      stays = λ clean up. stays_same (state g.S.Store c.self.inside.store) (state g.S.Store c.args.self.now.store) (state g.S.Store c.save.new.self) before (c.in-Err.ensures.safe.kept clean up).1;
+      stays = λ clean up. stays_same c.args.done.changes.items (state g.S.Store c.self.inside.store) (state g.S.Store c.args.self.now.store) (state g.S.Store c.save.new.self) before (c.in-Err.ensures.safe.kept clean up).1;
     }
