@@ -4,3 +4,4 @@ mod Imports
 mod Opened
 mod Lines
 mod Writers
+mod Lasting

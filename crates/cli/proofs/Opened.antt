@@ -1,5 +1,5 @@
 -- What comes of a task where its office was opened or the opening refused, and what is left.
-use Rattle.std.proofs.Common.{◌≡◌, ◌⊎◌, inl, inr, ℕ, false, List, Result, sym, subst, ap, ◌∙◌}
+use Rattle.std.proofs.Common.{◌≡◌, ◌⊎◌, arith, inl, inr, ℕ, false, List, Result, sym, subst, ap, ◌∙◌}
 use Rattle.cli.proofs.Common.{Database, IsOpened, file_state, Held, state, Refusal, State, HasNone, Opens, DeskState, IsPeer, Peer, PortState, Within, some_port, Served, StreamFault, MessageText, Connect, AnswersFrom, AnswersOffice, office_seen, Task, ComesOf, IsUnopened, MayDo, Outcome, refused, ComesFrom, DoesOver, IsDone, IsFoundFor, IsOfficeIn, IsOfficeOf, IsWhyUnopened, LeftBy, TakesTo, PrintsOver, WasClean, Status}
 use Rattle.sqlite.specs.State.{State as Seen, HasCleanDisk}
 use Rattle.sqlite.specs.Start.{FindsIn}
@@ -59,7 +59,7 @@ module _ {S : Type 0} (ghosts : Ghosts S) (ports : ℕ → PortState) where
 
   -- a disk that is clean after a task was clean before it
   pub was_clean : (done : Task) (before after : DeskState S) → TakesTo ghosts ports done before after → WasClean (state ghosts before.store) (state ghosts after.store)
-  was_clean (task.Ask asked) before after taken = taken.2
+  was_clean (task.Ask asked) before after taken = λ clean. omega (arith, taken.1.asking.saved.crash.clean, clean)
   was_clean (task.Serve serving) before after taken =
       connect_back (λ desk. HasCleanDisk (state ghosts desk.store)) (AnswersFrom ghosts) (λ b words bytes a step. step.clean) (ports serving.port).peers before after taken.0 taken.1
 
@@ -89,12 +89,10 @@ module _ {S : Type 0} (ghosts : Ghosts S) (lent ports : ℕ → PortState) (with
   done_within A B more first last is = record {
     desk = is.desk;
     found = is.found;
+    opened = is.opened;
     fit = is.fit;
-    no_session = is.no_session;
-    opens = is.opens;
-    is_open = is.is_open;
-    counts = is.counts;
-    limit = is.limit;
+    live = is.live;
+    clean = is.clean;
     next = is.next;
     done = more is.desk is.next is.done;
     given_back = is.given_back;

@@ -11,8 +11,8 @@ use Rattle.sqlite.specs.declared.error.Error.{Error}
 use Rattle.sqlite.specs.declared.error.Error.TheVariants.{SqliteFailure}
 use Rattle.sqlite.specs.declared.error.ErrorCode.TheVariants.{OutOfMemory}
 use Rattle.sqlite.specs.Effect.{Database, IsDatabase}
-use Rattle.sqlite.specs.State.{State as Seen, HasCleanDisk}
-use Rattle.sqlite.specs.Held.{Held, state}
+use Rattle.sqlite.specs.State.{State as Seen, HasCleanDisk, IsLive}
+use Rattle.sqlite.specs.Held.{Held, IsNew, state}
 use Rattle.sqlite.specs.Files.{HoldsDatabase, IsBlankAs, IsClosed, IsOpened, FailsToClose, file_state, over_files}
 use Rattle.sqlite.specs.Start.{FindsIn}
 use Rattle.sqlite_wal.specs.Recovery.{Image}
@@ -35,7 +35,7 @@ use Rattle.store.specs.Reading.{IsDamaged}
 use Rattle.store.specs.declared.edition.Edition.{Edition}
 use Rattle.store.specs.Tables.{HasNone, Opens, StandsIn}
 use Rattle.desk.specs.Keeping.{Keeps}
-use Rattle.desk.specs.DeskState.{DeskState}
+use Rattle.desk.specs.DeskState.{DeskState, IsOpened as IsDeskOpened}
 use Rattle.web.specs.Connections.{Connect}
 use Rattle.web.specs.Serving.{AnswersFrom, GetsAt}
 use Rattle.wire.specs.declared.outcome.Served.{Served}
@@ -93,22 +93,19 @@ module _ {S : Type 0} (ghosts : Ghosts S) (ports : ℕ → PortState) where
 
   -- what a task makes of what is at a desk: one step of its request, or what its connections make
   abbrev pub TakesTo : Task → DeskState S → DeskState S → Type 0
-  TakesTo (task.Ask asked) before after =
-      (answer : Result Reply Refusal) × Step layers before.office asked answer after.office × WasClean (state ghosts before.store) (state ghosts after.store)
+  TakesTo (task.Ask asked) before after = (answer : Result Reply Refusal) × GetsAt ghosts before asked answer after
   TakesTo (task.Serve serving) before after = (came : List (Result Served StreamFault)) × Connect (AnswersFrom ghosts) (ports serving.port).peers before came after
 
 module _ {S : Type 0} (ghosts : Ghosts S) where
-  -- The office of the database was opened at this desk, this was done there, and the tables stand for the office after it. From the opening
-  -- on no failure of the disk is taken back, and what a statement may take stays.
+  -- The office of the database was opened at this desk, this was done there, and the tables stand for the office after it. A disk that is
+  -- clean at the end was clean when the office was opened.
   pub record IsDone (Done : DeskState S → DeskState S → Type 0) (first last : Held S) : Type 0 where
     pub desk : DeskState S
     pub found : IsFoundFor (state ghosts first) (state ghosts last) desk.office
+    pub opened : IsDeskOpened ghosts first desk
     pub fit : IsFit desk.office
-    pub no_session : desk.session ≡ None
-    pub opens : HasCleanDisk (state ghosts last) → Opens (state ghosts first).now (state ghosts desk.store).now desk.office
-    pub is_open : HasCleanDisk (state ghosts last) → IsTrue (state ghosts desk.store).is_open
-    pub counts : (state ghosts first).faults ≤ (state ghosts desk.store).faults
-    pub limit : (state ghosts desk.store).step_limit ≡ (state ghosts first).step_limit
+    pub live : IsLive (state ghosts desk.store)
+    pub clean : WasClean (state ghosts desk.store) (state ghosts last)
     pub next : DeskState S
     pub done : Done desk next
     pub given_back : last ≡ next.store
@@ -151,6 +148,7 @@ pub record LeavesFile {D : Type 0} {g : disk.Ghosts D} (world : WorldState) (nam
   pub found : HasCleanDisk (file_state first) → FindsIn (world.image name) (file_state first)
   pub opened : HasCleanDisk (file_state first) → IsOpened first
   pub plain : HasCleanDisk (file_state first) → IsBlankAs false (world.image name) → (view first.store).has_sums ≡ false
+  pub fresh : IsNew first
   pub of_file : (office : State) → IsFoundFor (file_state first) (file_state last) office → HasCleanDisk (file_state last) → IsOfficeIn (world.image name) office
   pub left : LeftBy over_files world.ports done status first last
   pub closing : IsClosing last came

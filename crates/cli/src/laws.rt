@@ -1,11 +1,13 @@
-//! A law of what a command does: a function with nothing to do, whose contract is the law.
+//! Laws of what a command does: functions with nothing to do, whose contracts are the laws.
 
 ghost use Rattle.std.specs.Prelude.{ℕ, List};
 ghost use Rattle.cli.specs.Outcomes.{ComesTo, Prints};
 ghost use Rattle.cli.specs.Databases.{Came, WordsAt};
+ghost use Rattle.cli.specs.Lasting.{TaskStays};
 
 use crate::outputs::Outputs;
 use crate::status::Status;
+use sqlite::Alter;
 use web::Sink;
 use world::World;
 
@@ -13,3 +15,11 @@ use world::World;
 pub fn printed_law<W: World, O: Sink, E: Sink>(world: &W, outputs: &Outputs<O, E>)
     ensures printed { (words : List (List ℕ)) (came : Came W.File W.File.Disk) (new : _) (status : Status) → WordsAt (W.state world.now) words came outputs.now new status → Prints (ComesTo words) outputs.now new status }
 {}
+
+/// A change that a command made and answered, or a connection that it served, stays: what a crash leaves before the file is closed is opened
+/// as the office after all answers, or as one that one request makes of it.
+pub fn task_law<W: World, S: Alter>(world: &W)
+    ensures stays { TaskStays S.Store (let at = W.state world.now in at.ports) }
+{
+    desk::crash_law::<S>();
+}

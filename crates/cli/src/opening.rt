@@ -5,6 +5,7 @@ ghost use Rattle.sqlite_wal.specs.Reads.{AreClean};
 ghost use Rattle.sqlite_trees.specs.View.{IsClean};
 ghost use Rattle.sqlite_store.specs.FileStore.{view};
 ghost use Rattle.sqlite.specs.Files.{IsBlankAs, IsClosed, IsOpened, FailsToClose, file_state};
+ghost use Rattle.sqlite.specs.Held.{IsNew};
 ghost use Rattle.sqlite.specs.Start.{FindsIn};
 ghost use Rattle.sqlite.specs.State.{HasCleanDisk};
 ghost use Rattle.sqlite.specs.Closing.{IsCopied};
@@ -39,6 +40,7 @@ pub(crate) fn open_file<W: World>(
     ensures opened { IfOk result (λ c. HasCleanDisk (file_state c.0) → IsOpened c.0) }
     ensures plain { IfOk result (λ c. HasCleanDisk (file_state c.0) → IsBlankAs false ((W.state world).image database.now) → (view c.0.store).has_sums ≡ false) }
     ensures ports { IfOk result (λ c. (port : ℕ) → Within (W.Ports.state c.1 port) ((W.state world).ports port)) }
+    ensures fresh { IfOk result (λ c. IsNew c.0) }
     ensures refused { IfErr result (λ r. (error : Error) × (W.state world).refuses database.now error × IsRefusalOf error r) }
 {
     match world.open(database) {

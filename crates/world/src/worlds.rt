@@ -3,6 +3,7 @@
 ghost use Rattle.std.specs.Prelude.{◌≡◌, ℕ, ◌+◌, false, map, string_bytes, Some, None, Ok, Err, IfOk, IfErr, MatchResult};
 ghost use Rattle.std.specs.IoError.{error_kind};
 ghost use Rattle.sqlite.specs.Files.{IsBlankAs, IsOpened, file_state};
+ghost use Rattle.sqlite.specs.Held.{IsNew};
 ghost use Rattle.sqlite.specs.Start.{FindsIn};
 ghost use Rattle.sqlite.specs.State.{HasCleanDisk};
 ghost use Rattle.sqlite_store.specs.FileStore.{view};
@@ -79,7 +80,7 @@ pub trait World: Drop {
     fn read(&self, path: &str) -> io::Result<Self::Reader>
         ensures { MatchResult result (λ reader. (state self.now).holds path.now (Some (Self.Reader.remaining reader))) (λ _. (state self.now).holds path.now None) };
 
-    /// Opens the database file with this name; a file that is not there is made.
+    /// Opens the database file with this name; a file that is not there is made. No limit is set on the steps of a statement.
     fn open(self, path: &str) -> Result<(Connection<FileStore<Self::File>>, Self::Ports), Error>
         ensures found { IfOk result (λ c. HasCleanDisk (file_state c.0) → FindsIn ((state self).image path.now) (file_state c.0)) }
         ensures opened { IfOk result (λ c. HasCleanDisk (file_state c.0) → IsOpened c.0) }
@@ -87,5 +88,6 @@ pub trait World: Drop {
         // A file that is new is one that any other program for SQLite files reads and writes.
         ensures plain { IfOk result (λ c. HasCleanDisk (file_state c.0) → IsBlankAs false ((state self).image path.now) → (view c.0.store).has_sums ≡ false) }
         ensures ports { IfOk result (λ c. (port : ℕ) → Within (Self.Ports.state c.1 port) ((state self).ports port)) }
+        ensures fresh { IfOk result (λ c. IsNew c.0) }
         ensures refused { IfErr result (λ error. (state self).refuses path.now error) };
 }

@@ -15,12 +15,10 @@ did g c Done done =
     (record {
       desk = c.in-Ok.desk;
       found = found_for (state g.S.Store c.args.connection) (state g.S.Store c.in-Ok.desk.store) (state g.S.Store c.do_at-status.new.desk.store) c.in-Ok.desk.office was (λ clean. omega (arith, clean, c.in-Ok.ensures.opened.opening.crash.clean)) c.in-Ok.ensures.opened.opening.office;
+      opened = c.in-Ok.ensures.opened;
       fit = c.keeps.ensures.fit;
-      no_session = c.in-Ok.ensures.opened.no_session;
-      opens = λ clean. c.in-Ok.ensures.opened.opening.office (was clean);
-      is_open = λ clean. c.in-Ok.ensures.opened.opening.is_open (was clean);
-      counts = c.in-Ok.ensures.opened.opening.crash.counts;
-      limit = c.in-Ok.ensures.opened.opening.crash.limit;
+      live = c.keeps.ensures.live;
+      clean = was;
       next = c.do_at-status.new.desk;
       done = done;
       given_back = refl;

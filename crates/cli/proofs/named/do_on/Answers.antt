@@ -15,6 +15,7 @@ returns-in-Ok g c =
         found = c.in-Ok.ensures.found;
         opened = c.in-Ok.ensures.opened;
         plain = c.in-Ok.ensures.plain;
+        fresh = c.in-Ok.ensures.fresh;
         of_file = of_file _ c.in-Ok.connection (file_state did.0) c.in-Ok.ensures.found c.in-Ok.ensures.opened;
         left = left_within over_files lent ports c.in-Ok.ensures.ports c.args.task _ c.in-Ok.connection did.0 did.2;
         closing = did.3;

@@ -1,4 +1,4 @@
-use Rattle.std.proofs.Common.{◌≡◌, ◌∙◌, ap, arith, inl, inr, rules, sym, ℕ, List, [], Result, Ok, Err, IfOk, IfErr, MatchResult}
+use Rattle.std.proofs.Common.{◌≡◌, ◌∙◌, ap, inl, inr, rules, sym, ℕ, List, [], Result, Ok, Err, IfOk, IfErr, MatchResult}
 use Rattle.cli.proofs.Common.{Served, StreamFault, MessageText, IsPeer, Peer, PortState, Connect, AnswersFrom, gets_at, ComesFrom, IsServed, IsUnbound, Outcome, ServesAt, of_answer, printed_reply, prints}
 use Rattle.cli.specs.declared.tasks.Task.TheVariants as task
 use Rattle.cli.proofs.Opened.{came_within}
@@ -19,10 +19,10 @@ returns-in-Ask-clause-printed g c =
     rw c.in-Ask.is (prints_more _ (ComesFrom g.S.Store (g.P.Ports.state c.args.ports) (task.Ask asked) c.args.desk.now c.ask-answer.new.self) (λ o is. (c.ask-answer.result, gets, is ∙ ap of_answer (sym c.in-Err.is))) _ _ _ c.refuse.ensures)
 
 pub returns-in-Ok-clause-taken : goal.returns-in-Ok-clause-taken
-returns-in-Ok-clause-taken g c = rw c.in-Ask.is (c.ask-answer.result, c.ask-answer.ensures.step, λ clean. omega (arith, clean, c.ask-answer.ensures.saved.crash.clean))
+returns-in-Ok-clause-taken g c = rw c.in-Ask.is (c.ask-answer.result, gets_at g.S.Store c.args.desk.now c.ask-answer.new.self c.in-Ask.asked c.ask-answer.result c.ask-answer.ensures.step c.ask-answer.ensures.at_once c.ask-answer.ensures.session c.ask-answer.ensures.saved c.keeps.ensures.tables c.keeps.ensures.live c.keeps.ensures.fit)
 
 pub returns-in-Ask-clause-taken : goal.returns-in-Ask-clause-taken
-returns-in-Ask-clause-taken g c = rw c.in-Ask.is (c.ask-answer.result, c.ask-answer.ensures.step, λ clean. omega (arith, clean, c.ask-answer.ensures.saved.crash.clean))
+returns-in-Ask-clause-taken g c = rw c.in-Ask.is (c.ask-answer.result, gets_at g.S.Store c.args.desk.now c.ask-answer.new.self c.in-Ask.asked c.ask-answer.result c.ask-answer.ensures.step c.ask-answer.ensures.at_once c.ask-answer.ensures.session c.ask-answer.ensures.saved c.keeps.ensures.tables c.keeps.ensures.live c.keeps.ensures.fit)
 
 module _ {A E D : Type 0} (step : D → MessageText → List ℕ → D → Type 0) (at : PortState) (peers : A → ℕ → Peer) (before after : D) where
   -- whether the port was bound or not
