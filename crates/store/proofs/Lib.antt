@@ -19,3 +19,4 @@ mod SameTrees
 mod Opening
 mod Readings
 mod Nothing
+mod Reopened

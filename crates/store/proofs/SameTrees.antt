@@ -49,7 +49,7 @@ unfolding gathered
 of_gathered rows table = found_so all_tables rows table ∙ found_all rows table
 
 -- so their tables hold the same rows
-holds_so : (tables : List Table) (number : ℕ) (a b : Database) (rows : AllRows) → IsDatabase a → IsDatabase b → b.trees ≡ a.trees → TablesOf tables number a rows → TablesOf tables number b rows
+pub holds_so : (tables : List Table) (number : ℕ) (a b : Database) (rows : AllRows) → IsDatabase a → IsDatabase b → b.trees ≡ a.trees → TablesOf tables number a rows → TablesOf tables number b rows
 holds_so tables number a b rows p q trees t =
     let all = listed_so a b p q trees in
     stand_as tables number number a b rows t (stands_so (table_at Edition) t.edition (numbered number) a b all trees t.editions)

@@ -1,6 +1,6 @@
 //! Laws that the words of the contracts keep: functions with nothing to do, whose contracts are the laws.
 
-ghost use Rattle.store.specs.Laws.{OpensAgain, TakesChanges, TakesTables};
+ghost use Rattle.store.specs.Laws.{FindsOurs, OpensAgain, OpensOurs, TakesChanges, TakesTables};
 
 use change_laws::rows_law;
 
@@ -19,4 +19,10 @@ pub fn available_law()
 /// A database in which nothing was made takes the tables.
 pub fn founding_law()
     ensures { TakesTables }
+{}
+
+/// Tables as they are made here are found so wherever their trees are, and to open them is hindered by no statement.
+pub fn reopening_law()
+    ensures found { FindsOurs }
+    ensures opens { OpensOurs }
 {}

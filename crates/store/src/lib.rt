@@ -26,5 +26,5 @@ mod transaction;
 
 pub use edition::{Edition, has_none};
 pub use fault::StoreFault;
-pub use laws::{available_law, founding_law, opening_law};
+pub use laws::{available_law, founding_law, opening_law, reopening_law};
 pub use store::Store;
