@@ -1,6 +1,6 @@
 //! Laws that the words of the contracts keep: functions with nothing to do, whose contracts are the laws.
 
-ghost use Rattle.desk.specs.Lasting.{AskLasts};
+ghost use Rattle.desk.specs.Lasting.{AskLasts, OfficeLasts};
 ghost use Rattle.desk.specs.Laws.{AnswersStay, AskIsWhole, AskReaches, IsFoundWhole, RestIsKept, RunIsWhole};
 
 use sqlite::Alter;
@@ -24,8 +24,11 @@ pub fn crash_law<S: Alter>()
 }
 
 /// A desk that is ready for some requests, since its tables are as they are made here and have rowids left, refuses none of them for
-/// the database's own reasons: each leaves it ready for the others.
+/// the database's own reasons: each leaves it ready for the others. So an office that was made here refuses none of fewer than 2^40
+/// requests for such reasons, however often its database is opened again meanwhile.
 pub fn lasting_law<S: Alter>()
-    ensures { AskLasts S.Store }
+    ensures ask { AskLasts S.Store }
+    ensures office { OfficeLasts S.Store }
 {
+    store::reopening_law();
 }

@@ -1,5 +1,8 @@
-use Rattle.desk.proofs.Lasting.{ask_lasts}
+use Rattle.desk.proofs.Lasting.{ask_lasts, office_lasts}
 use Rattle.desk.proofs.laws.lasting_law.Goals as goal
 
-pub returns : goal.returns
-returns g c = ask_lasts g.S.Store
+pub returns-clause-ask : goal.returns-clause-ask
+returns-clause-ask g c = ask_lasts g.S.Store
+
+pub returns-clause-office : goal.returns-clause-office
+returns-clause-office g c = office_lasts g.S.Store c.reopening_law.ensures.found c.reopening_law.ensures.opens

@@ -5,4 +5,4 @@ pub returns-clause-stay : goal.returns-clause-stay
 returns-clause-stay g c = answered_stay g.S.Store c.crash_law.ensures.reaches c.crash_law.ensures.answered
 
 pub returns-clause-last : goal.returns-clause-last
-returns-clause-last g c = stream_lasts g.S.Store c.lasting_law.ensures
+returns-clause-last g c = stream_lasts g.S.Store c.lasting_law.ensures.ask
