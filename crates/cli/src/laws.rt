@@ -16,8 +16,8 @@ pub fn printed_law<W: World, O: Sink, E: Sink>(world: &W, outputs: &Outputs<O, E
     ensures printed { (words : List (List ℕ)) (came : Came W.File W.File.Disk) (new : _) (status : Status) → WordsAt (W.state world.now) words came outputs.now new status → Prints (ComesTo words) outputs.now new status }
 {}
 
-/// A change that a command made and answered, or a connection that it served, stays: what a crash leaves before the file is closed is opened
-/// as the office after all answers, or as one that one request makes of it.
+/// A change that a command made and answered, or that it answered to a client, stays: what a crash leaves before the file is closed is
+/// opened as the office after all answers, or as one that one request makes of it.
 pub fn task_law<W: World, S: Alter>(world: &W)
     ensures stays { TaskStays S.Store (let at = W.state world.now in at.ports) }
 {

@@ -18,7 +18,7 @@ AreFew changes rows = AreAllowed changes rows × (length changes ≤ 2 ^ 20)
 abbrev pub LeavesRoom : ℕ → Database → Database → Type 0
 LeavesRoom taken old new = (count : ℕ) → taken + count ≤ 2 ^ 62 → HasRoom (taken + count) old → HasRoom count new
 
--- Tables that hold rows, and are as they are made here, are so still after these changes. Where they take them, each takes one rowid at most.
+-- Tables that hold rows, and are as they are made here, are so still after these changes. Where they take them, each takes a rowid at most.
 unfoldable pub StaysOurs : List Change → Database → Database → Type 0
 StaysOurs changes old new = (rows : AllRows) → IsDatabase old → IsOurs old → TablesHold old rows → IsOurs new × (AreAllowed changes rows → LeavesRoom (length changes) old new)
 
