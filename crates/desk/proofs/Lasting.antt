@@ -57,7 +57,7 @@ module _ {S : Type 0} (ghosts : Ghosts S) (finds : FindsOurs) (opens : OpensOurs
           ready = λ clean up. (
             opening.ours clean over.sound founded.ours founded.uncounted,
             opening.room clean (subst HasNone (sym nothing) (λ table has. refl)) over.sound founded.ours founded.uncounted (count * 2 ^ 20) (omega (arith, few))
-            (λ table place has. absurd (subst (λ (all : List AnyTable). Has all (table_at table place)) none has)),
+                (λ table place has. absurd (subst (λ (all : List AnyTable). Has all (table_at table place)) none has)),
           );
         };
         stands = over.opened.tables;

@@ -63,8 +63,8 @@ module _ (db found : Database) (sound : IsDatabase db) (here : IsDatabase found)
       let two = twin.2 in
       let named : one.table.name ≡ two.table.name = let both = sym one.described.owner_is ∙ two.described.owner_is in cc in
       let same : one.table ≡ two.table =
-          named_once db.schema.tables one.table two.table sound.lists.listed.named (back one.table one.listed) two.listed
-          (subst (λ (name : List ℕ). same_name one.table.name name ≡ true) named (same_itself one.table.name)) in
+      named_once db.schema.tables one.table two.table sound.lists.listed.named (back one.table one.listed) two.listed
+      (subst (λ (name : List ℕ). same_name one.table.name name ≡ true) named (same_itself one.table.name)) in
       let tree : i.tree ≡ twin.0.tree = one_less i.tree twin.0.tree (sym one.described.id ∙ two.described.id) in
       elim (one_index one.table i twin.0 (column row.0 4) tree one.defined (subst (λ (table : AnyTable). IsDefined table twin.0 (column row.0 4)) (sym same) two.defined)) [
         | inl is ↦ subst (IsOwnIndex (made_here t place.tree)) (sym is) (ours.own t place twin.0 (back _ there) twin.1 (ap (λ (i : Index). i.table) (sym is) ∙ of))
