@@ -1,10 +1,12 @@
 #!/usr/bin/env python3
-"""Checks by its prices that the matching of a round text is best by the aim of the text.
+"""Checks by its prices that the matching of a round text is best by the aim of the text, or what everybody and a student can check of a
+public text.
 
-tools/check_round.py FILE     prints what `spadesk check FILE` prints, also of a text with a bad line; status 1 where that is not `best`
+tools/check_round.py FILE                        prints what `spadesk check FILE` prints, also of a text with a bad line
+tools/check_round.py FILE STUDENT P1 .. Pk       prints what `spadesk check-own FILE STUDENT P1 .. Pk` prints of a public text
 
-It knows the format and the five conditions (docs/FORMATS.md, docs/PROOF.md) and nothing else of this repository: who does not
-trust the program can read these lines. Rows of thirteen numbers are compared as Python compares tuples, the first number first; those
+The status is 1 where that is neither `best` nor `accepted`. It knows the formats and the conditions (docs/FORMATS.md, docs/PROOF.md)
+and nothing else of this repository: who does not trust the program can read these lines. Rows of thirteen numbers are compared as Python compares tuples, the first number first; those
 of a generous round in the order size, last rank to first, and at the ranks the smaller number is the better.
 """
 import functools
@@ -17,7 +19,7 @@ MAX_BYTES = 524_288
 # the sections in their order, the roll that each section of prices goes along with, and how many lines a roll may have
 SECTIONS = "ASPCMUYZ"
 ROLL = {"U": "C", "Y": "P", "Z": "S"}
-MOST = {"S": 100, "P": 400, "C": 500}
+MOST = {"S": 100, "P": 400, "C": 500, "R": 500}
 
 
 def added(*rows):
@@ -57,6 +59,8 @@ def number(word, least, most):
 class Round:
     """What the lines of a round text say so far: quotas by (kind of price, code), each project's supervisor, lists, pairs, prices."""
 
+    SECTIONS = SECTIONS
+
     def __init__(self):
         self.read, self.section = greedy, None
         self.quota, self.offerer, self.lists, self.pairs, self.price = {}, {}, {}, {}, {}
@@ -68,7 +72,7 @@ class Round:
 
     def add(self, line):
         kind, *fields = line.split(",")
-        need(kind in list(SECTIONS) and len(fields) >= 1)
+        need(kind in list(self.SECTIONS) and len(fields) >= 1)
         if kind == "A":
             need(self.section is None and fields == ["generous"])
             self.read = generous
@@ -114,11 +118,51 @@ class Round:
     add_Z = functools.partialmethod(add_price, kind="Z")
 
 
-def checked(text):
-    """What is told of a text, whose bytes stand as the characters below 256."""
+class Public(Round):
+    """What the lines of a public text say so far: what each student is told, and the prices that are not zero."""
+
+    SECTIONS = "ASPRYZ"
+
+    def __init__(self):
+        super().__init__()
+        self.told = {}
+
+    def is_whole(self, kinds="YZ"):
+        return True
+
+    def enter(self, kind, code):
+        need(self.SECTIONS.index(kind) >= self.SECTIONS.index(self.section or "A"))
+        codes = self.codes.setdefault(kind, [])
+        need(re.fullmatch("[A-Z0-9][A-Z0-9-]{0,15}", code) and (not codes or code > codes[-1]))
+        codes.append(code)
+        need(len(codes) <= MOST.get(kind, 500))
+        need(kind not in ROLL or code in self.codes[ROLL[kind]])
+
+    def add_R(self, code, *project):
+        need(len(project) <= 1 and set(project) <= set(self.offerer))
+        self.told[code] = project[0] if project else None
+
+    def add_price(self, code, *numbers, kind):
+        super().add_price(code, *numbers, kind=kind)
+        need(self.price[kind, code] != ZERO)
+
+    add_Y = functools.partialmethod(add_price, kind="Y")
+    add_Z = functools.partialmethod(add_price, kind="Z")
+
+    def cost(self, project):
+        return added(self.price.get(("Y", project), ZERO), self.price.get(("Z", self.offerer[project]), ZERO))
+
+    def has(self, rank, project):
+        """What a project at a rank is worth at the prices."""
+        return tuple(a - b for a, b in zip(weight(rank), self.cost(project)))
+
+
+def checked(text, *own):
+    """What is told of a text, whose bytes stand as the characters below 256, and of a student with this code and list."""
     if len(text) > MAX_BYTES:
         return "refused 4: TooLarge"
-    it = Round()
+    is_public = own or any(line.startswith("R") for line in text.split("\n"))
+    it = Public() if is_public else Round()
     *lines, rest = text.split("\n")
     for at, line in enumerate(lines, 1):
         try:
@@ -127,7 +171,41 @@ def checked(text):
             return f"bad line {at}"
     if rest or not it.is_whole():
         return f"bad line {len(lines) + 1}"
-    return judged(it)
+    if not is_public:
+        return judged(it)
+    told = judged_public(it)
+    return judged_own(it, *own) if own and told.startswith("accepted") else told
+
+
+def judged_public(it):
+    """The first of everybody's conditions that fails, or what is accepted."""
+    projects = [project for project in it.told.values() if project]
+    taken = [("Y", project) for project in projects] + [("Z", it.offerer[project]) for project in projects]
+    if any(taken.count(node) > it.quota[node] for node in set(taken)):
+        return "fault 1"
+    if any(it.read(row) < ZERO for row in it.price.values()):
+        return "fault 3"
+    if any(taken.count(node) < it.quota[node] for node in it.price):
+        return "fault 5"
+    return f"accepted size {len(projects)} students {len(it.told)}"
+
+
+def judged_own(it, student, *choices):
+    """The first of a student's own conditions that fails, or what is accepted."""
+    if student not in it.told:
+        return "not in this round"
+    if not 1 <= len(choices) <= RANKS or len(set(choices)) < len(choices) or not set(choices) <= set(it.offerer):
+        return "fault 7"
+    project = it.told[student]
+    if project and project not in choices:
+        return "fault 6"
+    has = it.has(choices.index(project) + 1, project) if project else ZERO
+    if it.read(has) < ZERO:
+        return f"fault 4 {student} 0"
+    for rank, other in enumerate(choices, 1):
+        if it.read(has) < it.read(it.has(rank, other)):
+            return f"fault 4 {student} {rank}"
+    return f"accepted {project} {choices.index(project) + 1}" if project else "accepted none"
 
 
 def judged(it):
@@ -150,6 +228,6 @@ def judged(it):
 
 
 if __name__ == "__main__":
-    answer = checked(open(sys.argv[1], "rb").read().decode("latin-1"))
+    answer = checked(open(sys.argv[1], "rb").read().decode("latin-1"), *sys.argv[2:])
     print(answer)
-    sys.exit(not answer.startswith("best "))
+    sys.exit(not answer.startswith(("best ", "accepted ")))

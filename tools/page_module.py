@@ -23,7 +23,7 @@ import tempfile
 from office import TOP, read
 from page import sealed
 
-CRATE, EXPORTS, PAGES = "page_check", ("page_room", "page_check", "page_solve"), ("office.html", "check.html")
+CRATE, EXPORTS, PAGES = "page_check", ("page_room", "page_check", "page_solve", "page_publish", "page_own"), ("office.html", "check.html")
 LAYOUT = "e-m:e-p:64:64-p10:8:8-p20:8:8-i64:64-i128:128-n32:64-S128-ni:1:10:20"  # clang's for wasm64
 MAY_CALL = r"(rattle_alloc|rattle_realloc|rattle_dealloc|llvm\.(memset|memmove|memcpy|trap|cttz|ctlz|ctpop)[a-z0-9.]*)"
 # as the toolchain has clang compile each module, without what is x86's: passes with known faults are off, and what cannot come traps

@@ -5,7 +5,8 @@ use Rattle.sqlite_disk.specs.declared.Disk.{Ghosts}
 use Rattle.sqlite.specs.declared.error.Error.{Error}
 use Rattle.sqlite.specs.declared.error.Error.TheVariants.{SqliteFailure}
 use Rattle.sqlite.specs.declared.error.ErrorCode.TheVariants.{OutOfMemory}
-use Rattle.round_files.specs.Rounds.{IsSolved, IsChecked}
+use Rattle.round_files.specs.Rounds.{IsSolved, IsChecked, IsPublished}
+use Rattle.round_files.specs.Public.{IsCheckedOwn}
 use Rattle.rolls.specs.declared.refusal.Refusal.TheVariants as no
 use Rattle.commands.specs.declared.line.Line.{Line}
 use Rattle.commands.specs.declared.line.Line.TheVariants as line
@@ -58,6 +59,8 @@ module _ {D : Type 0} {g : Ghosts D} {O E : Type 0} (world : WorldState) where
       prints_more _ (ImportsFile (string_bytes database) (string_bytes id) kind) (λ o is. imports_file (world.holds (string_bytes file)) (string_bytes database) (string_bytes id) kind at.0 o at.1 is) _ _ _ (asked_comes (string_bytes database) at.0 came old new status at.2)
   line_comes (line.Solve file) came old new status at = prints_more _ (OnFile (λ _. ⊤) IsSolved) (λ o is. of_any (world.holds (string_bytes file)) IsSolved o is) _ _ _ at.1
   line_comes (line.Check file) came old new status at = prints_more _ (OnFile (λ _. ⊤) IsChecked) (λ o is. of_any (world.holds (string_bytes file)) IsChecked o is) _ _ _ at.1
+  line_comes (line.Publish file) came old new status at = prints_more _ (OnFile (λ _. ⊤) IsPublished) (λ o is. of_any (world.holds (string_bytes file)) IsPublished o is) _ _ _ at.1
+  line_comes (line.CheckOwn file own) came old new status at = prints_more _ (OnFile (λ _. ⊤) (λ text. IsCheckedOwn text (string_bytes own))) (λ o is. of_any (world.holds (string_bytes file)) (λ text. IsCheckedOwn text (string_bytes own)) o is) _ _ _ at.1
   line_comes _ came old new status at = done_comes _ _ came old new status at
 
   command_comes : (words : List (List ℕ)) (command : Result Line LineFault) (came : Came D g) (old new : Both O E) (status : Status) → IsAnswer words command

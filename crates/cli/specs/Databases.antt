@@ -41,7 +41,8 @@ use Rattle.web.specs.Serving.{AnswersFrom, GetsAt}
 use Rattle.wire.specs.declared.outcome.Served.{Served}
 use Rattle.world.specs.WorldState.{PortState, WorldState}
 use Rattle.wire.specs.declared.outcome.StreamFault.{StreamFault}
-use Rattle.round_files.specs.Rounds.{IsSolved, IsChecked}
+use Rattle.round_files.specs.Rounds.{IsSolved, IsChecked, IsPublished}
+use Rattle.round_files.specs.Public.{IsCheckedOwn}
 use Rattle.commands.specs.declared.line.Line.{Line}
 use Rattle.commands.specs.declared.line.Line.TheVariants as line
 use Rattle.commands.specs.declared.line.LineFault.{LineFault}
@@ -191,6 +192,8 @@ module _ {D : Type 0} {g : disk.Ghosts D} {O E : Type 0} (world : WorldState) wh
   LineAt (line.Report database kind round) came old new status = DoneAt (string_bytes database) (task.Ask (request.Report kind round)) came old new status
   LineAt (line.Solve file) came old new status = (came ≡ None) × Prints (OnFile (world.holds (string_bytes file)) IsSolved) old new status
   LineAt (line.Check file) came old new status = (came ≡ None) × Prints (OnFile (world.holds (string_bytes file)) IsChecked) old new status
+  LineAt (line.Publish file) came old new status = (came ≡ None) × Prints (OnFile (world.holds (string_bytes file)) IsPublished) old new status
+  LineAt (line.CheckOwn file own) came old new status = (came ≡ None) × Prints (OnFile (world.holds (string_bytes file)) (λ text. IsCheckedOwn text (string_bytes own))) old new status
 
   -- the line of the words was done so, or their fault was printed, and nothing was opened
   abbrev pub CommandAt : Result Line LineFault → Came D g → Both O E → Both O E → Status → Type 0

@@ -21,7 +21,8 @@ use Rattle.outside.specs.Layers.{layers}
 use Rattle.web.specs.Connections.{Connect, lines_after}
 use Rattle.web.specs.Serving.{AnswersOffice}
 use Rattle.wire.specs.Run.{MessageText}
-use Rattle.round_files.specs.Rounds.{IsSolved, IsChecked}
+use Rattle.round_files.specs.Rounds.{IsSolved, IsChecked, IsPublished}
+use Rattle.round_files.specs.Public.{IsCheckedOwn}
 use Rattle.round_files.specs.declared.rounds.Trouble.{Trouble}
 use Rattle.round_files.specs.declared.rounds.Trouble.TheVariants.{Refused, BadLine, Failed}
 use Rattle.commands.specs.declared.line.Line.{Line}
@@ -191,6 +192,8 @@ MayCome (line.CloseRound database) o = MayDoAt (string_bytes database) (task.Ask
 MayCome (line.Report database kind round) o = MayDoAt (string_bytes database) (task.Ask (request.Report kind round)) o
 MayCome (line.Solve file) o = OnFile (λ _. ⊤) IsSolved o
 MayCome (line.Check file) o = OnFile (λ _. ⊤) IsChecked o
+MayCome (line.Publish file) o = OnFile (λ _. ⊤) IsPublished o
+MayCome (line.CheckOwn file own) o = OnFile (λ _. ⊤) (λ text. IsCheckedOwn text (string_bytes own)) o
 
 -- what words may come to: what their line does, or their fault
 abbrev pub MayComeOf : Result Line LineFault → Outcome → Type 0

@@ -1,6 +1,7 @@
 //! The lines on a round file.
 
 ghost use Rattle.std.specs.Prelude.{◌≡◌, MatchResult};
+ghost use Rattle.round_files.specs.Public.{IsCheckedOwn};
 ghost use Rattle.cli.specs.Outputs.{CanFail};
 ghost use Rattle.cli.specs.Outcomes.{Prints, OnFile};
 ghost use Rattle.cli.specs.Inside.Rounds.{ComesBy};
@@ -11,28 +12,45 @@ use crate::printing::print_round;
 use crate::status::Status;
 use intake::MAX_BYTES;
 use rolls::Refusal;
-use round_files::{Trouble, checked, solved};
+use round_files::{Trouble, checked, checked_own, published, solved};
 use std::alloc::Global;
 use web::Sink;
 use world::World;
 
 /// What a line does with the round of a file.
 #[derive(Clone, Copy, Drop)]
-pub(crate) enum RoundTask {
+pub(crate) enum RoundTask<'a> {
     /// It solves the round.
     Solve,
-    /// It checks the matching and the prices of the round.
+    /// It checks the matching and the prices of the round, or what everybody can of a public text.
     Check,
+    /// It publishes the round.
+    Publish,
+    /// It checks what a public text assigns to a student, by this code and list.
+    CheckOwn(&'a str),
+}
+
+/// Returns what a student's own check says of a public text, by the student's code and list.
+fn judged_own(alloc: Global, text: &[u8], own: &str) -> Result<String, Trouble>
+    ensures { IsCheckedOwn text.now own.now result }
+{
+    checked_own(alloc, text, own.as_bytes())
 }
 
 /// Does this with the round that was read of a file, or gives the refusal of the reading.
-fn do_read(alloc: Global, way: RoundTask, read: Result<Vec<u8>, Refusal>) -> Result<String, Trouble>
-    ensures { MatchResult read (λ bytes. ComesBy way bytes.items result) (λ refusal. result ≡ Err (Trouble.Refused refusal)) }
+fn do_read(
+    alloc: Global,
+    way: RoundTask<'_>,
+    read: Result<Vec<u8>, Refusal>,
+) -> Result<String, Trouble>
+    ensures { MatchResult read (λ bytes. ComesBy way.entry bytes.items result) (λ refusal. result ≡ Err (Trouble.Refused refusal)) }
 {
     match read {
         Ok(bytes) => match way {
             RoundTask::Solve => solved(alloc, &bytes),
             RoundTask::Check => checked(alloc, &bytes),
+            RoundTask::Publish => published(alloc, &bytes),
+            RoundTask::CheckOwn(own) => judged_own(alloc, &bytes, own),
         },
         Err(refusal) => Err(Trouble::Refused(refusal)),
     }
@@ -42,12 +60,12 @@ fn do_read(alloc: Global, way: RoundTask, read: Result<Vec<u8>, Refusal>) -> Res
 pub(crate) fn do_file<W: World, O: Sink, E: Sink>(
     alloc: Global,
     world: &W,
-    way: RoundTask,
+    way: RoundTask<'_>,
     file: &str,
     outputs: &mut Outputs<O, E>,
 ) -> Status
     requires { CanFail outputs.old }
-    ensures { Prints (OnFile ((W.state world.now).holds file.now) (ComesBy way)) outputs.old outputs.new result }
+    ensures { Prints (OnFile ((W.state world.now).holds file.now) (ComesBy way.entry)) outputs.old outputs.new result }
 {
     let came = do_read(alloc, way, read_file(alloc, world, file, MAX_BYTES));
     print_round(came, outputs)

@@ -83,6 +83,14 @@ fn do_line<W: World, O: Sink, E: Sink>(
             do_file(alloc, &world, RoundTask::Check, &file, outputs),
             None,
         ),
+        Line::Publish(file) => (
+            do_file(alloc, &world, RoundTask::Publish, &file, outputs),
+            None,
+        ),
+        Line::CheckOwn { file, own } => (
+            do_file(alloc, &world, RoundTask::CheckOwn(&own), &file, outputs),
+            None,
+        ),
     }
 }
 

@@ -10,7 +10,7 @@ pub use Rattle.commands.specs.Inside.Table.{argument_by, told_by}
 pub use Rattle.commands.specs.Kinds.{import_kinds, report_kinds, report_word}
 pub use Rattle.commands.specs.Program.{AreWords, parser_of, program, program_name, rule_by, with_argument, with_line}
 pub use Rattle.commands.specs.Reading.{AreGiven, Each, HasOne, IsFaultOf, IsGiven, IsLineOf, ReadsLine, fits, word_in}
-pub use Rattle.commands.specs.Table.{Argument, DeclaredLine, aim, count, database, file, id, import_kind, lines, port, report_kind, round}
+pub use Rattle.commands.specs.Table.{Argument, DeclaredLine, aim, count, database, choices, file, further, id, import_kind, lines, needs, port, report_kind, round, student}
 pub use Rattle.commands.specs.declared.program.Kinds.{Kinds}
 pub use Rattle.commands.specs.declared.table.Takes.{Takes}
 pub use Rattle.commands.specs.declared.table.Takes.TheVariants.{Aim, ImportKind, Number, ReportKind, Word}

@@ -7,3 +7,4 @@ pub mod Simple
 pub mod Subcommands
 pub mod Taken
 pub mod Values
+mod Own

@@ -1,6 +1,6 @@
 -- Where `clap` finds no fault in the words, they name a line, and each of its arguments has a word that may stand for it.
 use Rattle.std.proofs.Common.{◌≡◌, ◌||◌, ◌∙◌, ℕ, Bool, List, [], ◌∷◌, Option, Some, None, true, false, inl, inr, refl, sym, ap, subst, map, codes}
-use Rattle.commands.proofs.Common.{IsSomeAnd, list_any, bytes_eq, bytes_eq-Decides, word_of, list_any-map, level_fault, Shape, argument_words, built, filled, help_rule, with_index, arg_by_id, nothing_held, rows_after, Row, Text, fault_of, subcommand_of, import_kinds, report_kinds, report_word, AreWords, parser_of, program, rule_by, AreGiven, Each, HasOne, IsGiven, fits, word_in, Argument, aim, count, database, file, id, import_kind, port, report_kind, round, Kinds, Takes, Word, Number, ImportKind, ReportKind, Aim}
+use Rattle.commands.proofs.Common.{IsSomeAnd, list_any, bytes_eq, bytes_eq-Decides, word_of, list_any-map, level_fault, Shape, argument_words, built, filled, help_rule, with_index, arg_by_id, nothing_held, rows_after, Row, Text, fault_of, subcommand_of, import_kinds, report_kinds, report_word, AreWords, parser_of, program, rule_by, AreGiven, Each, HasOne, IsGiven, fits, word_in, Argument, aim, count, database, file, id, import_kind, port, report_kind, round, student, further, needs, Kinds, Takes, Word, Number, ImportKind, ReportKind, Aim}
 use Rattle.std.specs.Borrow.{Bor}
 use Rattle.spa.specs.Aims.{aims, aim_word}
 use Rattle.clap.specs.ValueTests.{accepts}
@@ -80,6 +80,17 @@ four_leaf kinds are s a b c d is one two three four words e =
     let has = subst (λ (r : List Rule). Each (HasValue s (rows_after s.rules [] words)) r) is (line_values s words simple none e) in
     (given_by kinds are s rows 1 a has.0 one, (given_by kinds are s rows 2 b has.1.0 two, (given_by kinds are s rows 3 c has.1.1.0 three, (given_by kinds are s rows 4 d has.1.1.1.0 four, tt))))
 
+-- the line with a list, whose arguments are fourteen
+own_leaf : (kinds : Kinds) → AreWords kinds → (s : Shape) (a1 a2 a3 a4 a5 a6 a7 a8 a9 a10 a11 a12 a13 a14 : Argument) → s.rules ≡ rule_at kinds 1 a1 ∷ rule_at kinds 2 a2 ∷ rule_at kinds 3 a3 ∷ rule_at kinds 4 a4 ∷ rule_at kinds 5 a5 ∷ rule_at kinds 6 a6 ∷ rule_at kinds 7 a7 ∷ rule_at kinds 8 a8 ∷ rule_at kinds 9 a9 ∷ rule_at kinds 10 a10 ∷ rule_at kinds 11 a11 ∷ rule_at kinds 12 a12 ∷ rule_at kinds 13 a13 ∷ rule_at kinds 14 a14 ∷ with_index 15 (filled help_rule) ∷ []
+    → arg_by_id s.rules a1.name ≡ Some (rule_at kinds 1 a1) → arg_by_id s.rules a2.name ≡ Some (rule_at kinds 2 a2) → arg_by_id s.rules a3.name ≡ Some (rule_at kinds 3 a3) → arg_by_id s.rules a4.name ≡ Some (rule_at kinds 4 a4) → arg_by_id s.rules a5.name ≡ Some (rule_at kinds 5 a5) → arg_by_id s.rules a6.name ≡ Some (rule_at kinds 6 a6) → arg_by_id s.rules a7.name ≡ Some (rule_at kinds 7 a7) → arg_by_id s.rules a8.name ≡ Some (rule_at kinds 8 a8) → arg_by_id s.rules a9.name ≡ Some (rule_at kinds 9 a9) → arg_by_id s.rules a10.name ≡ Some (rule_at kinds 10 a10) → arg_by_id s.rules a11.name ≡ Some (rule_at kinds 11 a11) → arg_by_id s.rules a12.name ≡ Some (rule_at kinds 12 a12) → arg_by_id s.rules a13.name ≡ Some (rule_at kinds 13 a13) → arg_by_id s.rules a14.name ≡ Some (rule_at kinds 14 a14)
+    → (words : List Text) → level_fault s [] nothing_held words false [] ≡ [] → Each (IsGiven (rows_after s.rules [] words)) (a1 ∷ a2 ∷ a3 ∷ a4 ∷ a5 ∷ a6 ∷ a7 ∷ a8 ∷ a9 ∷ a10 ∷ a11 ∷ a12 ∷ a13 ∷ a14 ∷ [])
+own_leaf kinds are s a1 a2 a3 a4 a5 a6 a7 a8 a9 a10 a11 a12 a13 a14 is h1 h2 h3 h4 h5 h6 h7 h8 h9 h10 h11 h12 h13 h14 words e =
+    let simple : Each Plain s.rules = subst (λ (r : List Rule). Each Plain r) (sym is) (inl (is_value kinds 1 a1), (inl (is_value kinds 2 a2), (inl (is_value kinds 3 a3), (inl (is_value kinds 4 a4), (inl (is_value kinds 5 a5), (inl (is_value kinds 6 a6), (inl (is_value kinds 7 a7), (inl (is_value kinds 8 a8), (inl (is_value kinds 9 a9), (inl (is_value kinds 10 a10), (inl (is_value kinds 11 a11), (inl (is_value kinds 12 a12), (inl (is_value kinds 13 a13), (inl (is_value kinds 14 a14), (inr (is_help 15), tt))))))))))))))) in
+    let none : Each (λ (x : Rule). x.defaults ≡ []) s.rules = subst (λ (r : List Rule). Each (λ (x : Rule). x.defaults ≡ []) r) (sym is) (refl, (refl, (refl, (refl, (refl, (refl, (refl, (refl, (refl, (refl, (refl, (refl, (refl, (refl, (refl, tt))))))))))))))) in
+    let rows : List Row = rows_after s.rules [] words in
+    let has = subst (λ (r : List Rule). Each (HasValue s (rows_after s.rules [] words)) r) is (line_values s words simple none e) in
+    (given_by kinds are s rows 1 a1 has.0 h1, (given_by kinds are s rows 2 a2 has.1.0 h2, (given_by kinds are s rows 3 a3 has.1.1.0 h3, (given_by kinds are s rows 4 a4 has.1.1.1.0 h4, (given_by kinds are s rows 5 a5 has.1.1.1.1.0 h5, (given_by kinds are s rows 6 a6 has.1.1.1.1.1.0 h6, (given_by kinds are s rows 7 a7 has.1.1.1.1.1.1.0 h7, (given_by kinds are s rows 8 a8 has.1.1.1.1.1.1.1.0 h8, (given_by kinds are s rows 9 a9 has.1.1.1.1.1.1.1.1.0 h9, (given_by kinds are s rows 10 a10 has.1.1.1.1.1.1.1.1.1.0 h10, (given_by kinds are s rows 11 a11 has.1.1.1.1.1.1.1.1.1.1.0 h11, (given_by kinds are s rows 12 a12 has.1.1.1.1.1.1.1.1.1.1.1.0 h12, (given_by kinds are s rows 13 a13 has.1.1.1.1.1.1.1.1.1.1.1.1.0 h13, (given_by kinds are s rows 14 a14 has.1.1.1.1.1.1.1.1.1.1.1.1.1.0 h14, tt))))))))))))))
+
 -- `help` is no line
 no_help : (word : Text) → (bytes_eq (codes "help") word || false) ≡ true → bytes_eq word (codes "help") ≡ false → ⊥
 no_help word h other = go (bytes_eq (codes "help") word) refl h
@@ -104,7 +115,7 @@ values_given kinds are words e =
                 (λ word at other ws f. three_leaf kinds are _ database report_kind round refl refl refl refl ws f),
                 (
                   (λ word at other ws f. one_leaf kinds are _ file refl refl ws f),
-                  ((λ word at other ws f. one_leaf kinds are _ file refl refl ws f), ((λ word at other ws f. absurd (no_help word at other)), tt)),
+                  ((λ word at other ws f. one_leaf kinds are _ file refl refl ws f), ((λ word at other ws f. one_leaf kinds are _ file refl refl ws f), ((λ word at other ws f. own_leaf kinds are _ file student (needs (codes "P1") Word) (further (codes "P2")) (further (codes "P3")) (further (codes "P4")) (further (codes "P5")) (further (codes "P6")) (further (codes "P7")) (further (codes "P8")) (further (codes "P9")) (further (codes "P10")) (further (codes "P11")) (further (codes "P12")) refl refl refl refl refl refl refl refl refl refl refl refl refl refl refl ws f), ((λ word at other ws f. absurd (no_help word at other)), tt)))),
                 ),
               ),
             ),

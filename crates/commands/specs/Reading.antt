@@ -1,5 +1,5 @@
 -- The line that words stand for, and the faults of words that are none.
-use Rattle.std.specs.Prelude.{◌≡◌, ◌≢◌, ℕ, Bool, false, List, [], ◌∷◌, Option, None, Some, Result, IfErr, IfOk, IfSome, IsSomeAnd, codes, find, option_map, string_bytes, true}
+use Rattle.std.specs.Prelude.{◌≡◌, ◌≢◌, ℕ, Bool, false, List, [], ◌∷◌, ◌++◌, flat_map, Option, None, Some, Result, IfErr, IfOk, IfSome, IsSomeAnd, codes, find, option_map, string_bytes, true}
 use Rattle.std.specs.List.{list_any}
 use Rattle.std.specs.Str.{bytes_eq}
 use Rattle.std.specs.Str.Parse.{digits_value, without_leading_plus}
@@ -14,9 +14,9 @@ use Rattle.clap.specs.declared.error.kind.ErrorKind.TheVariants.{DisplayHelp, Di
 use Rattle.clap.specs.ValueTests.{is_unsigned_in}
 use Rattle.commands.specs.Kinds.{import_kinds, report_kinds, report_word}
 use Rattle.commands.specs.Program.{AreWords, program}
-use Rattle.commands.specs.Table.{Argument, aim, count, database, file, id, import_kind, lines, port, report_kind, round}
+use Rattle.commands.specs.Table.{Argument, aim, count, database, file, id, import_kind, lines, port, report_kind, round, student, choices}
 use Rattle.commands.specs.declared.line.Line.{Line}
-use Rattle.commands.specs.declared.line.Line.TheVariants.{Serve, Import, OpenRound, ReopenRound, CloseRound, Report, Solve, Check}
+use Rattle.commands.specs.declared.line.Line.TheVariants.{Serve, Import, OpenRound, ReopenRound, CloseRound, Report, Solve, Check, Publish, CheckOwn}
 use Rattle.commands.specs.declared.line.LineFault.{LineFault}
 use Rattle.commands.specs.declared.line.LineFault.TheVariants.{Memory, Help, Version, Fault}
 use Rattle.commands.specs.declared.program.Kinds.{Kinds}
@@ -66,6 +66,15 @@ number_of word = digits_value 10 (without_leading_plus word)
 abbrev pub number_in : List Row → Argument → Option ℕ
 number_in rows argument = option_map number_of (word_in rows argument)
 
+-- a word after a comma, where one was read
+abbrev pub after_comma : Option Text → Text
+after_comma None = []
+after_comma (Some word) = 44 ∷ word
+
+-- the student's code, and each choice that was read after a comma
+abbrev pub own_words : List Row → Text → Text
+own_words rows code = code ++ flat_map (λ choice. after_comma (word_in rows choice)) choices
+
 -- the line has this name, and these words and numbers are its values
 abbrev pub IsLineOf : Text → List Row → Line → Type 0
 IsLineOf name rows (Serve d p c) = (name ≡ codes "serve") × (word_in rows database ≡ Some (string_bytes d)) × (number_in rows port ≡ Some p) × (number_in rows count ≡ Some c)
@@ -78,6 +87,8 @@ IsLineOf name rows (CloseRound d) = (name ≡ codes "close-round") × (word_in r
 IsLineOf name rows (Report d k n) = (name ≡ codes "report") × (word_in rows database ≡ Some (string_bytes d)) × (word_in rows report_kind ≡ Some (report_word k)) × (number_in rows round ≡ Some n)
 IsLineOf name rows (Solve f) = (name ≡ codes "solve") × (word_in rows file ≡ Some (string_bytes f))
 IsLineOf name rows (Check f) = (name ≡ codes "check") × (word_in rows file ≡ Some (string_bytes f))
+IsLineOf name rows (Publish f) = (name ≡ codes "publish") × (word_in rows file ≡ Some (string_bytes f))
+IsLineOf name rows (CheckOwn f l) = (name ≡ codes "check-own") × (word_in rows file ≡ Some (string_bytes f)) × IsSomeAnd (word_in rows student) (λ code. string_bytes l ≡ own_words rows code)
 
 -- `clap` fails by one of these kinds: help or the version is asked for, or else there is a fault
 abbrev pub IsFaultOf : ErrorKinds → LineFault → Type 0

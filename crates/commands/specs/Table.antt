@@ -55,6 +55,31 @@ round = needs (codes "ROUND") (Number 0 9999)
 abbrev pub aim : Argument
 aim = record { name = codes "AIM"; takes = Aim; needed = false }
 
+-- a student's code
+abbrev pub student : Argument
+student = needs (codes "STUDENT") Word
+
+-- a place of a list that may be left out
+abbrev pub further : Text → Argument
+further name = record { name = name; takes = Word; needed = false }
+
+-- the places of a list
+abbrev pub choices : List Argument
+choices =
+    needs (codes "P1") Word
+    ∷ further (codes "P2")
+    ∷ further (codes "P3")
+    ∷ further (codes "P4")
+    ∷ further (codes "P5")
+    ∷ further (codes "P6")
+    ∷ further (codes "P7")
+    ∷ further (codes "P8")
+    ∷ further (codes "P9")
+    ∷ further (codes "P10")
+    ∷ further (codes "P11")
+    ∷ further (codes "P12")
+    ∷ []
+
 -- a line of this name with these arguments
 abbrev pub declared_line : Text → List Argument → DeclaredLine
 declared_line name arguments = record { name = name; arguments = arguments }
@@ -70,4 +95,6 @@ lines =
     ∷ declared_line (codes "report") (database ∷ report_kind ∷ round ∷ [])
     ∷ declared_line (codes "solve") (file ∷ [])
     ∷ declared_line (codes "check") (file ∷ [])
+    ∷ declared_line (codes "publish") (file ∷ [])
+    ∷ declared_line (codes "check-own") (file ∷ student ∷ choices)
     ∷ []

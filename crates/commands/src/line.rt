@@ -52,8 +52,17 @@ pub enum Line {
     },
     /// Print the round of this file with a best matching and prices.
     Solve(String),
-    /// Check the matching and the prices of the round of this file.
+    /// Check the matching and the prices of the round of this file, or what everybody can of the public text there.
     Check(String),
+    /// Print the public text of the round of this file.
+    Publish(String),
+    /// Check what a public text assigns to a student.
+    CheckOwn {
+        /// The file of the public text.
+        file: String,
+        /// The student's code and list, with commas.
+        own: String,
+    },
 }
 
 /// Why words are no line.

@@ -5,7 +5,7 @@ ghost use Rattle.rolls.specs.Kinds.{word_of};
 ghost use Rattle.clap.specs.Words.{found_of, kind_of, rows_of, subcommand_rows_of};
 ghost use Rattle.commands.specs.Kinds.{report_word};
 ghost use Rattle.commands.specs.Program.{AreWords};
-ghost use Rattle.commands.specs.Reading.{AreGiven, IsAimOf, IsAnswer, IsGiven, IsLineOf, fits, number_in, word_in};
+ghost use Rattle.commands.specs.Reading.{AreGiven, IsAimOf, IsAnswer, IsGiven, IsLineOf, fits, number_in, own_words, word_in};
 ghost use Rattle.commands.specs.Inside.Reading.{IsFaultAs, IsNumberBelow, IsReportedBy};
 ghost use Rattle.commands.specs.Table;
 ghost use Rattle.commands.specs.Inside.Table.{argument_by};
@@ -13,8 +13,10 @@ ghost use Rattle.commands.specs.Inside.Table.{argument_by};
 use crate::kinds::{aim_words, import_kind, import_words, report_kind, report_words};
 use crate::line::{Line, LineFault};
 use crate::program::{Kinds, program};
-use crate::table::Argument;
-use crate::table::given::{AIM, COUNT, DATABASE, FILE, ID, IMPORT_KIND, PORT, REPORT_KIND, ROUND};
+use crate::table::given::{
+    AIM, COUNT, DATABASE, FILE, ID, IMPORT_KIND, PORT, REPORT_KIND, ROUND, STUDENT,
+};
+use crate::table::{Argument, choices};
 use clap::error::ErrorKind;
 use clap::{ArgMatches, Error};
 use rolls::{ImportKind, ReportKind};
@@ -118,6 +120,33 @@ fn import_line(alloc: Global, given: &ArgMatches<'_>) -> Result<Line, AllocError
     })
 }
 
+/// Returns the student's code and list, with commas.
+fn own_words(alloc: Global, given: &ArgMatches<'_>) -> Result<String, AllocError>
+    requires { IsGiven (rows_of (found_of given.now)) Rattle.commands.specs.Table.student }
+    ensures { IfOk result (λ t. IsSomeAnd (word_in (rows_of (found_of given.now)) Rattle.commands.specs.Table.student) (λ code. string_bytes t ≡ own_words (rows_of (found_of given.now)) code)) }
+{
+    let mut words = text(alloc, given, &STUDENT)?;
+    let list = choices();
+    for choice in list {
+        if let Some(word) = given_word(given, choice) {
+            words.push_str(",")?;
+            words.push_str(word)?;
+        }
+    }
+    Ok(words)
+}
+
+/// Returns the line that checks what a student is assigned.
+fn own_line(alloc: Global, given: &ArgMatches<'_>) -> Result<Line, AllocError>
+    requires { AreGiven (codes "check-own") (rows_of (found_of given.now)) }
+    ensures { IfOk result (IsLineOf (codes "check-own") (rows_of (found_of given.now))) }
+{
+    Ok(Line::CheckOwn {
+        file: text(alloc, given, &FILE)?,
+        own: own_words(alloc, given)?,
+    })
+}
+
 /// Returns the line of the subcommand that was used.
 fn line_of(alloc: Global, name: &str, given: &ArgMatches<'_>) -> Result<Line, AllocError>
     requires { AreGiven name.now (rows_of (found_of given.now)) }
@@ -139,6 +168,8 @@ fn line_of(alloc: Global, name: &str, given: &ArgMatches<'_>) -> Result<Line, Al
         }),
         "solve" => Ok(Line::Solve(text(alloc, given, &FILE)?)),
         "check" => Ok(Line::Check(text(alloc, given, &FILE)?)),
+        "publish" => Ok(Line::Publish(text(alloc, given, &FILE)?)),
+        "check-own" => own_line(alloc, given),
         _ => unreachable!(),
     }
 }

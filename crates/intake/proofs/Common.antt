@@ -17,7 +17,7 @@ pub use Rattle.spa.specs.Matched.{HasPlaces, IsMatched}
 pub use Rattle.spa.specs.Named.{IsFit, Named, instance_of, projects_named, students_named, supervisors_named}
 pub use Rattle.spa.specs.Shape.{IsPlaceOf, choice_at, list_of}
 pub use Rattle.spa.specs.Text.{is_code, is_code_byte}
-pub use Rattle.spa.specs.declared.TheConstants.{COMPONENTS, MAX_QUOTA, RANKS}
+pub use Rattle.spa.specs.declared.TheConstants.{COMPONENTS, MAX_PROJECTS, MAX_QUOTA, MAX_STUDENTS, MAX_SUPERVISORS, RANKS}
 pub use Rattle.spa.specs.declared.aim.Aim.{Aim}
 pub use Rattle.spa.specs.declared.aim.Aim.TheVariants.{Generous, Greedy}
 pub use Rattle.spa.specs.declared.code.Code.{Code}

@@ -10,7 +10,7 @@ code_byte_high : (b : ℕ) → is_code_byte b ≡ true → 45 ≤ b
 code_byte_high b h = grind (arith, nat_tests)
 
 -- and so is one that is tested for it
-tested_high : (b : ℕ) → nat_le 45 b ≡ true → 45 ≤ b
+pub tested_high : (b : ℕ) → nat_le 45 b ≡ true → 45 ≤ b
 tested_high b h = grind (arith, nat_tests)
 
 -- a byte that stands in no field
@@ -20,12 +20,12 @@ module _ (c : ℕ) (low : c < 45) where
   apart b h = ne_eqb b c (λ e. omega (arith, e))
 
   -- it is none of the bytes that a test takes, where the test takes none below a dash
-  high_plain : (test : ℕ → Bool) → ((b : ℕ) → test b ≡ true → 45 ≤ b) → (x : List ℕ) → list_all test x ≡ true → IsFree c x
+  pub high_plain : (test : ℕ → Bool) → ((b : ℕ) → test b ≡ true → 45 ≤ b) → (x : List ℕ) → list_all test x ≡ true → IsFree c x
   high_plain test high [] h = All-nil (λ b. (b == c) ≡ false)
   high_plain test high (b ∷ x) h = All-cons (λ b. (b == c) ≡ false) b x (apart b (high b (first_so (test b) (list_all test x) h))) (high_plain test high x (second_so (test b) (list_all test x) h))
 
   -- a code has no comma in it
-  code_plain : (x : List ℕ) → is_code x ≡ true → IsFree c x
+  pub code_plain : (x : List ℕ) → is_code x ≡ true → IsFree c x
   code_plain x h = high_plain is_code_byte code_byte_high x (code_bytes x h)
 
   -- a digit is no comma
@@ -33,13 +33,13 @@ module _ (c : ℕ) (low : c < 45) where
   digit_plain n h = apart (48 + n) (omega arith)
 
   -- a number has no comma in it
-  number_plain : (n : ℕ) → n < 2 ^ 64 → IsFree c (decimal n)
+  pub number_plain : (n : ℕ) → n < 2 ^ 64 → IsFree c (decimal n)
   number_plain n h = decimal_by_steps (λ n ds. IsFree c ds)
       (λ n l. All-cons (λ b. (b == c) ≡ false) (48 + n) [] (digit_plain n l) (All-nil (λ b. (b == c) ≡ false)))
       (λ n ds l d. All-push (λ b. (b == c) ≡ false) ds (48 + n % 10) d (digit_plain (n % 10) (omega arith))) n h
 
   -- and none of a price has
-  signed_plain : (n : ℤ) → InRange n → IsFree c (signed_decimal n)
+  pub signed_plain : (n : ℤ) → InRange n → IsFree c (signed_decimal n)
   signed_plain (pos n) h = let s = small (pos n) h in number_plain n (omega (arith, s))
   signed_plain (negsuc n) h = let s = small (negsuc n) h in All-cons (λ b. (b == c) ≡ false) 45 (decimal (suc n)) (apart 45 (omega arith)) (number_plain (suc n) (omega (arith, s)))
 
@@ -63,7 +63,7 @@ module _ (c : ℕ) (low : c < 45) where
   plain (w ∷ ws) (s ∷ ss) l h = (λ k d i. All-cons (IsFree c) s.letter (get_or s.rows k d) l.0 (h.0 k d i), plain ws ss l.1 h.1)
 
   -- a letter is not the byte
-  letter : (b : ℕ) → 45 ≤ b → IsFree c (b ∷ [])
+  pub letter : (b : ℕ) → 45 ≤ b → IsFree c (b ∷ [])
   letter b h = All-cons (λ b. (b == c) ≡ false) b [] (apart b h) (All-nil (λ b. (b == c) ≡ false))
 
   -- it stands in no field of an instance, places and prices

@@ -13,6 +13,12 @@ mod Order
 mod PairLine
 mod Pieces
 mod Prices
+mod PublicRows
+mod PublicGoes
+mod PublicBad
+mod PublicAdded
+mod PublicRolls
+mod PublicText
 mod Rolls
 mod Sections
 mod Size

@@ -96,7 +96,7 @@ abbrev zeros : List ℤ
 zeros = replicate COMPONENTS (pos 0)
 
 -- it is one
-zeros_price : IsPrice zeros
+pub zeros_price : IsPrice zeros
 zeros_price = record { numbers = length-replicate COMPONENTS (pos 0); range = λ t h. rw (get_or-replicate COMPONENTS t (pos 0) (pos 0) h) (omega (arith, ints), omega (arith, ints)) }
 
 -- the prices at position n, and nothing for each of the rest

@@ -39,11 +39,11 @@ no_pair_rows [] = refl
 no_pair_rows (e ∷ es) = refl
 
 -- a look-up one further
-less : {X : Type 0} (x : X) (xs : List X) (m n : ℕ) (y : X) → slice_get (x ∷ xs) (suc m + n) ≡ Some y → slice_get xs (m + n) ≡ Some y
+pub less : {X : Type 0} (x : X) (xs : List X) (m n : ℕ) (y : X) → slice_get (x ∷ xs) (suc m + n) ≡ Some y → slice_get xs (m + n) ≡ Some y
 less x xs m n y h = (let e : suc m + n ≡ suc (m + n) = omega arith in subst (λ (k : ℕ). slice_get (x ∷ xs) k ≡ Some y) e h)
 
 -- the same of the other part
-more : {X : Type 0} (x : X) (xs : List X) (m n : ℕ) (y : X) → slice_get (x ∷ xs) (m + suc n) ≡ Some y → slice_get xs (m + n) ≡ Some y
+pub more : {X : Type 0} (x : X) (xs : List X) (m n : ℕ) (y : X) → slice_get (x ∷ xs) (m + suc n) ≡ Some y → slice_get xs (m + n) ≡ Some y
 more x xs m n y h = (let e : m + suc n ≡ suc (m + n) = omega arith in subst (λ (k : ℕ). slice_get (x ∷ xs) k ≡ Some y) e h)
 
 -- one pair more, after students without a place

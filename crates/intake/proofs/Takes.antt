@@ -46,7 +46,7 @@ front row code inj (x ∷ new) (y ∷ old) r more e =
     front_more row code x y new old r (inj x y first) (front row code inj new old r more rest)
 
 -- the front of codes that rise rises
-rise_front : (xs ys : List (List ℕ)) → Rise (xs ++ ys) → Rise xs
+pub rise_front : (xs ys : List (List ℕ)) → Rise (xs ++ ys) → Rise xs
 rise_front xs ys rise i j d h l =
     let e = rise i j d h (omega (arith, length-append xs ys)) in
     rw (get_or_append_left xs ys d i (omega arith), get_or_append_left xs ys d j l) at e

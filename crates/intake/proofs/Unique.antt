@@ -107,7 +107,7 @@ same_numbers (x ∷ v) (y ∷ w) a b e =
     ∙ ap (λ (l : List ℤ). y ∷ l) (same_numbers v w (λ t h. a (suc t) (omega arith)) (λ t h. b (suc t) (omega arith)) rest)
 
 -- and so are prices
-same_price : (v w : List ℤ) → IsPrice v → IsPrice w → map signed_decimal v ≡ map signed_decimal w → v ≡ w
+pub same_price : (v w : List ℤ) → IsPrice v → IsPrice w → map signed_decimal v ≡ map signed_decimal w → v ≡ w
 same_price v w a b e = same_numbers v w (λ t h. a.range t (omega (arith, a.numbers))) (λ t h. b.range t (omega (arith, b.numbers))) e
 
 -- prices of the same codes with the same rows are the same

@@ -1,12 +1,12 @@
 //! Round texts, written.
 #![tactic(auto)]
 
-ghost use Rattle.std.specs.Prelude.{◌≡◌, ◌≤◌, ◌++◌, map, flat_map, drop, codes, IfOk, IfSome, OnOk, string_bytes, length, All, IsTrue};
+ghost use Rattle.std.specs.Prelude.{◌≡◌, ◌<◌, ◌≤◌, ◌++◌, map, flat_map, drop, codes, IfOk, IfSome, OnOk, string_bytes, length, All, IsTrue};
 ghost use Rattle.spa.specs.Text.{is_code};
 ghost use Rattle.spa.specs.declared.TheConstants.{COMPONENTS};
 ghost use Rattle.spa.specs.declared.aim.Aim.{Aim};
 ghost use Rattle.spa.specs.Instance.{supervisor_codes, project_codes, student_codes};
-ghost use Rattle.spa.specs.Named.{Named, instance_of};
+ghost use Rattle.spa.specs.Named.{Named, instance_of, supervisors_named, projects_named};
 ghost use Rattle.spa.specs.Matched.{IsMatched, HasPlaces};
 ghost use Rattle.verdict.specs.Verdict.{HasShape};
 ghost use Rattle.intake.specs.declared.TheConstants.{MAX_BYTES};
@@ -20,7 +20,7 @@ use std::alloc::{AllocError, Global};
 use verdict::Prices;
 
 /// Appends the line of an aim, where it has one.
-fn write_aim(out: &mut String, aim: Aim) -> Result<(), AllocError>
+pub(crate) fn write_aim(out: &mut String, aim: Aim) -> Result<(), AllocError>
     ensures text { OnOk result (string_bytes out.new ≡ string_bytes out.old ++ ended (section_lines (record { letter = codes "A"; rows = aim_rows aim }))) }
 {
     match aim {
@@ -30,32 +30,36 @@ fn write_aim(out: &mut String, aim: Aim) -> Result<(), AllocError>
 }
 
 /// Appends the supervisors' lines.
-fn write_supervisors(out: &mut String, instance: &Instance) -> Result<(), AllocError>
-    ensures text { OnOk result (string_bytes out.new ≡ string_bytes out.old ++ ended (section_lines (record { letter = codes "S"; rows = map supervisor_row (instance_of instance.now).supervisors }))) }
-    ensures form { OnOk result (All (λ c. IsTrue (is_code c)) instance.now.supervisor_codes) }
+pub(crate) fn write_supervisors(
+    out: &mut String,
+    roll: &[Code],
+    quotas: &[u32],
+) -> Result<(), AllocError>
+    requires { length roll.now ≡ length quotas.now }
+    ensures text { OnOk result (string_bytes out.new ≡ string_bytes out.old ++ ended (section_lines (record { letter = codes "S"; rows = map supervisor_row (supervisors_named roll.now quotas.now) }))) }
+    ensures form { OnOk result (All (λ c. IsTrue (is_code c)) roll.now) }
 {
-    let codes = instance.supervisor_codes();
-    for l in 0..codes.len() {
-        push_supervisor(out, codes[l].as_str(), instance.supervisor_quota(l))?;
+    for l in 0..roll.len() {
+        push_supervisor(out, roll[l].as_str(), quotas[l])?;
     }
     Ok(())
 }
 
 /// Appends the projects' lines.
-fn write_projects(out: &mut String, instance: &Instance) -> Result<(), AllocError>
-    ensures text { OnOk result (string_bytes out.new ≡ string_bytes out.old ++ ended (section_lines (record { letter = codes "P"; rows = map project_row (instance_of instance.now).projects }))) }
-    ensures form { OnOk result (All (λ c. IsTrue (is_code c)) instance.now.project_codes) }
+pub(crate) fn write_projects(
+    out: &mut String,
+    supervisors: &[Code],
+    roll: &[Code],
+    projects: &[(usize, u32)],
+) -> Result<(), AllocError>
+    requires one_each { length roll.now ≡ length projects.now }
+    requires offered { All (λ p. p.0 < length supervisors.now) projects.now }
+    ensures text { OnOk result (string_bytes out.new ≡ string_bytes out.old ++ ended (section_lines (record { letter = codes "P"; rows = map project_row (projects_named supervisors.now roll.now projects.now) }))) }
+    ensures form { OnOk result (All (λ c. IsTrue (is_code c)) roll.now) }
 {
-    let codes = instance.project_codes();
-    let supervisors = instance.supervisor_codes();
-    for p in 0..codes.len() {
-        let supervisor = supervisors[instance.supervisor_of(p)].as_str();
-        push_project(
-            out,
-            codes[p].as_str(),
-            supervisor,
-            instance.project_quota(p),
-        )?;
+    for p in 0..roll.len() {
+        let (owner, quota) = projects[p];
+        push_project(out, roll[p].as_str(), supervisors[owner].as_str(), quota)?;
     }
     Ok(())
 }
@@ -122,8 +126,14 @@ fn write_instance(out: &mut String, instance: &Instance, aim: Aim) -> Result<(),
     ensures students { OnOk result (All (λ c. IsTrue (is_code c)) instance.now.student_codes) }
 {
     write_aim(out, aim)?;
-    write_supervisors(out, instance)?;
-    write_projects(out, instance)?;
+    let supervisors = instance.supervisor_codes();
+    write_supervisors(out, supervisors, instance.supervisors())?;
+    write_projects(
+        out,
+        supervisors,
+        instance.project_codes(),
+        instance.projects(),
+    )?;
     write_students(out, instance)
 }
 

@@ -5,7 +5,8 @@ use Rattle.rolls.specs.declared.refusal.Refusal.{Refusal}
 use Rattle.rolls.specs.RefusalInfo.{number_of, name_of}
 use Rattle.round_files.specs.declared.rounds.Trouble.{Trouble}
 use Rattle.round_files.specs.declared.rounds.Trouble.TheVariants.{Refused, BadLine, Failed}
-use Rattle.round_files.specs.Rounds.{IsChecked, IsSolved}
+use Rattle.round_files.specs.Rounds.{IsChecked, IsPublished, IsSolved}
+use Rattle.round_files.specs.Public.{IsCheckedOwn}
 
 -- the line of a refusal
 abbrev pub refused_line : Refusal → List ℕ
@@ -25,3 +26,11 @@ IsPrintedByCheck text line = (came : Result (String Global) Trouble) × IsChecke
 -- a text that `solve` prints of this one
 abbrev pub IsPrintedBySolve : List ℕ → List ℕ → Type 0
 IsPrintedBySolve text line = (came : Result (String Global) Trouble) × IsSolved text came × (line ≡ line_of came)
+
+-- a text that `publish` prints of this one
+abbrev pub IsPrintedByPublish : List ℕ → List ℕ → Type 0
+IsPrintedByPublish text line = (came : Result (String Global) Trouble) × IsPublished text came × (line ≡ line_of came)
+
+-- a line that `check-own` prints of this text, where its words are these with commas between them
+abbrev pub IsPrintedByCheckOwn : List ℕ → List ℕ → List ℕ → Type 0
+IsPrintedByCheckOwn text words line = (came : Result (String Global) Trouble) × IsCheckedOwn text words came × (line ≡ line_of came)

@@ -6,10 +6,10 @@
 #![tactic(auto)]
 
 ghost use Rattle.std.specs.Prelude.{◌≡◌, ◌≢◌, ◌≤◌, IfOk, length, take, string_bytes};
-ghost use Rattle.page_check.specs.Printed.{line_of, refused_line, IsPrintedByCheck, IsPrintedBySolve};
+ghost use Rattle.page_check.specs.Printed.{line_of, refused_line, IsPrintedByCheck, IsPrintedByCheckOwn, IsPrintedByPublish, IsPrintedBySolve};
 
 use rolls::Refusal;
-use round_files::{Trouble, checked, solved};
+use round_files::{Trouble, checked, checked_own, published, solved};
 use std::alloc::{AllocError, Global};
 use std::fmt::Write;
 
@@ -34,6 +34,32 @@ pub extern "C" fn page_solve(alloc: Global, text: &[u8], out: &mut [u8]) -> usiz
     ensures room { result ≤ length out.new }
 {
     match printed(alloc, solved(alloc, text)) {
+        Ok(line) => put(out, line.as_bytes()),
+        Err(_) => 0,
+    }
+}
+
+/// Puts what `spadesk publish FILE` prints of these bytes at the start of `out`, and answers its number of bytes: 0 where memory
+/// or room is short.
+#[unsafe(no_mangle)]
+pub extern "C" fn page_publish(alloc: Global, text: &[u8], out: &mut [u8]) -> usize
+    ensures printed { result ≢ 0 → IsPrintedByPublish text.now (take result out.new) }
+    ensures room { result ≤ length out.new }
+{
+    match printed(alloc, published(alloc, text)) {
+        Ok(line) => put(out, line.as_bytes()),
+        Err(_) => 0,
+    }
+}
+
+/// Puts what `spadesk check-own FILE STUDENT P1 .. Pk` prints of these bytes at the start of `out`, where `line` has the words
+/// `STUDENT,P1,..,Pk`, and answers its number of bytes: 0 where memory or room is short.
+#[unsafe(no_mangle)]
+pub extern "C" fn page_own(alloc: Global, text: &[u8], line: &[u8], out: &mut [u8]) -> usize
+    ensures printed { result ≢ 0 → IsPrintedByCheckOwn text.now line.now (take result out.new) }
+    ensures room { result ≤ length out.new }
+{
+    match printed(alloc, checked_own(alloc, text, line)) {
         Ok(line) => put(out, line.as_bytes()),
         Err(_) => 0,
     }

@@ -24,7 +24,7 @@ mod quotas;
 mod shape;
 
 pub use laws::{accepted_law, any_law, posted_law};
-pub use own::{OwnFault, check_own};
+pub use own::{OwnFault, check_own, place_of};
 pub use posted::Posted;
 pub use posting::post;
 pub use public::{PublicFault, check_public};

@@ -34,7 +34,7 @@ fn are_posted(list: &[usize], projects: usize) -> bool
 }
 
 /// Returns the place of a project in a list, from 1, which is its rank.
-pub(crate) fn place_of(list: &[usize], project: usize) -> Option<usize>
+pub fn place_of(list: &[usize], project: usize) -> Option<usize>
     ensures { MatchOption result (¬ Contains list.now project) (λ k. IsPlaceOf list.now k × Contains list.now project × (rank_in list.now project ≡ k)) }
 {
     for before in 0..list.len() {

@@ -1,1 +1,3 @@
+mod OwnSaid
+mod Positions
 mod RankText

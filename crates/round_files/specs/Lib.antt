@@ -1,2 +1,3 @@
+pub mod Public
 pub mod Rounds
 pub mod Inside

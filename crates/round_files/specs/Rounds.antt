@@ -15,6 +15,8 @@ use Rattle.verdict.specs.declared.conditions.CheckFault.TheVariants.{NotMatching
 use Rattle.intake.specs.Lines.{round_text}
 use Rattle.intake.specs.Reading.{IsReading}
 use Rattle.intake.specs.View.{proved}
+use Rattle.intake.specs.Public.{TellsStudents}
+use Rattle.round_files.specs.Public.{IsCheckedPublic, IsPublication}
 use Rattle.intake.specs.declared.round.RoundParts.{RoundParts}
 use Rattle.intake.specs.declared.round.RoundFault.TheVariants.{TooLarge, Line}
 use Rattle.verdict.specs.declared.conditions.Proved.{Proved}
@@ -72,9 +74,21 @@ abbrev pub IsSolved : List ℕ → Result (String Global) Trouble → Type 0
 IsSolved text (Ok printed) = IsSolution text (string_bytes printed)
 IsSolved text (Err trouble) = IsTrouble text trouble
 
--- what `check` makes of a text
-abbrev pub IsChecked : List ℕ → Result (String Global) Trouble → Type 0
-IsChecked text (Ok printed) = IsYes text (string_bytes printed)
-IsChecked text (Err (Failed printed)) = IsNo text (string_bytes printed)
-IsChecked text (Err (Refused refusal)) = IsTrouble text (Refused refusal)
-IsChecked text (Err (BadLine n)) = IsTrouble text (BadLine n)
+-- what `check` makes of a round text
+abbrev pub IsCheckedRound : List ℕ → Result (String Global) Trouble → Type 0
+IsCheckedRound text (Ok printed) = IsYes text (string_bytes printed)
+IsCheckedRound text (Err (Failed printed)) = IsNo text (string_bytes printed)
+IsCheckedRound text (Err (Refused refusal)) = IsTrouble text (Refused refusal)
+IsCheckedRound text (Err (BadLine n)) = IsTrouble text (BadLine n)
+
+-- what `check` makes of a text: where a line assigns something to a student it is a public text
+pub record IsChecked (text : List ℕ) (result : Result (String Global) Trouble) : Type 0 where
+  pub public : TellsStudents text → IsCheckedPublic text result
+  pub round : (TellsStudents text → ⊥) → IsCheckedRound text result
+
+-- what `publish` makes of a round text
+abbrev pub IsPublished : List ℕ → Result (String Global) Trouble → Type 0
+IsPublished text (Ok printed) = IsPublication text (string_bytes printed)
+IsPublished text (Err (Failed printed)) = IsNo text (string_bytes printed)
+IsPublished text (Err (Refused refusal)) = IsTrouble text (Refused refusal)
+IsPublished text (Err (BadLine n)) = IsTrouble text (BadLine n)

@@ -4,9 +4,10 @@ ghost use Rattle.std.specs.Prelude.{◌≡◌, ℕ, List, ◌∷◌, ◌++◌, f
 ghost use Rattle.spa.specs.Order.{order};
 ghost use Rattle.spa.specs.Matched.{HasPlaces};
 ghost use Rattle.verdict.specs.Verdict.{IsFirstFailure};
-ghost use Rattle.round_files.specs.Rounds.{best_text, fault_text, IsSolved, IsChecked};
+ghost use Rattle.round_files.specs.Rounds.{best_text, fault_text, IsSolved, IsChecked, IsCheckedRound};
 
-use intake::{RoundFault, RoundParts, read_round, write_round};
+use crate::public::checked_public;
+use intake::{RoundFault, RoundParts, is_public, read_round, write_round};
 use rolls::Refusal;
 use solver::solve;
 use spa::profile;
@@ -67,16 +68,26 @@ pub fn solved(alloc: Global, text: &[u8]) -> Result<String, Trouble>
     )?)
 }
 
-/// Returns size and profile of the matching of a text where its prices prove it best by the text's aim, or else the first
+/// Returns size and profile of the matching of a round text where its prices prove it best by the text's aim, or else the first
 /// condition that fails.
-pub fn checked(alloc: Global, text: &[u8]) -> Result<String, Trouble>
-    ensures { IsChecked text.now result }
+fn checked_round(alloc: Global, text: &[u8]) -> Result<String, Trouble>
+    ensures { IsCheckedRound text.now result }
 {
     let parts = read_round(alloc, text)?;
     match check(&parts.instance, parts.aim, &parts.matching, &parts.prices) {
         Ok(()) => Ok(best(alloc, &parts)?),
         Err(fault) => Err(Trouble::Failed(failed(alloc, &parts, fault)?)),
     }
+}
+
+/// Returns what everybody's check says of a public text, and of any other what the check of its matching and its prices does.
+pub fn checked(alloc: Global, text: &[u8]) -> Result<String, Trouble>
+    ensures { IsChecked text.now result }
+{
+    if is_public(alloc, text)? {
+        return checked_public(alloc, text);
+    }
+    checked_round(alloc, text)
 }
 
 /// Appends numbers, each after a space.
@@ -104,7 +115,11 @@ fn best(alloc: Global, parts: &RoundParts) -> Result<String, AllocError>
 }
 
 /// Returns what is printed of a check that failed: the number of the condition, and the first uncovered student and place.
-fn failed(alloc: Global, parts: &RoundParts, fault: CheckFault) -> Result<String, AllocError>
+pub(crate) fn failed(
+    alloc: Global,
+    parts: &RoundParts,
+    fault: CheckFault,
+) -> Result<String, AllocError>
     requires { IsFirstFailure (order parts.now.aim) parts.now.instance.shape parts.now.matching.places.items parts.now.prices fault }
     ensures { IfOk result (λ text. string_bytes text ≡ fault_text parts.now.instance fault) }
 {

@@ -46,12 +46,14 @@ fn shown(alloc: Global, line: &Line) -> Result<String, AllocError> {
         } => format!(in alloc; "Report {database}, {}, {round}", report_name(*kind)),
         Line::Solve(file) => format!(in alloc; "Solve {file}"),
         Line::Check(file) => format!(in alloc; "Check {file}"),
+        Line::Publish(file) => format!(in alloc; "Publish {file}"),
+        Line::CheckOwn { file, own } => format!(in alloc; "CheckOwn {file}, {own}"),
     }
 }
 
 // The words, and the line. Each range is met at both ends.
 #[rattlefmt::skip]
-static LINES: [(&str, &str); 23] = [
+static LINES: [(&str, &str); 26] = [
     ("spadesk serve school.db 1 1",                      "Serve school.db, 1, 1"),
     ("spadesk serve school.db 65535 1000000",            "Serve school.db, 65535, 1000000"),
     ("spadesk import a.db supervisors I1 x.csv",         "Import a.db, supervisors, I1, x.csv"),
@@ -73,6 +75,9 @@ static LINES: [(&str, &str); 23] = [
     ("spadesk solve round.txt",                          "Solve round.txt"),
     ("spadesk check round.txt",                          "Check round.txt"),
     ("spadesk check -- --help",                          "Check --help"),
+    ("spadesk publish proof.txt",                        "Publish proof.txt"),
+    ("spadesk check-own a.txt S P",                      "CheckOwn a.txt, S,P"),
+    ("spadesk check-own a.txt S 1 2 3 4 5 6 7 8 9 A B C", "CheckOwn a.txt, S,1,2,3,4,5,6,7,8,9,A,B,C"),
     ("spadesk --version",                                "the version"),
     ("spadesk -V",                                       "the version"),
 ];

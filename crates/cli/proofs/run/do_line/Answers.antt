@@ -4,6 +4,8 @@ use Rattle.rolls.specs.declared.request.Request.TheVariants as request
 use Rattle.cli.specs.declared.tasks.Task.TheVariants as task
 use Rattle.cli.proofs.Common.{IsImportOfFile, ComesBy}
 use Rattle.cli.specs.declared.rounds.RoundTask.TheVariants as way
+use Rattle.round_files.specs.Public.{IsCheckedOwn}
+use Rattle.cli.specs.Outcomes.{OnFile, Prints}
 use Rattle.cli.proofs.Lines.{asked_named, done_named, file_named}
 use Rattle.cli.proofs.run.do_line.Goals as goal
 
@@ -39,3 +41,16 @@ returns-in-Solve g c =
 pub returns-in-Check : goal.returns-in-Check
 returns-in-Check g c =
     rw c.in-Check.is (refl, file_named (g.W.World.state c.args.world) _ _ (ComesBy way.Check) c.args.outputs.now c.do_file-in-Check.new.outputs c.do_file-in-Check.result c.deref-in-Check.ensures c.do_file-in-Check.ensures)
+
+pub returns-in-Publish : goal.returns-in-Publish
+returns-in-Publish g c =
+    rw c.in-Publish.is (refl, file_named (g.W.World.state c.args.world) _ _ (ComesBy way.Publish) c.args.outputs.now c.do_file-in-Publish.new.outputs c.do_file-in-Publish.result c.deref-in-Publish.ensures c.do_file-in-Publish.ensures)
+
+pub returns-in-CheckOwn : goal.returns-in-CheckOwn
+returns-in-CheckOwn g c =
+    let holds = (g.W.World.state c.args.world).holds in
+    rw c.in-CheckOwn.is (
+      refl,
+      subst (λ (t : List ℕ). Prints (OnFile (holds (string_bytes c.in-CheckOwn.file)) (λ text. IsCheckedOwn text t)) c.args.outputs.now c.do_file-in-CheckOwn.new.outputs c.do_file-in-CheckOwn.result) c.deref-in-CheckOwn.ensures
+          (file_named (g.W.World.state c.args.world) _ _ (ComesBy (way.CheckOwn c.deref-in-CheckOwn.result)) c.args.outputs.now c.do_file-in-CheckOwn.new.outputs c.do_file-in-CheckOwn.result c.deref-in-CheckOwn-2.ensures c.do_file-in-CheckOwn.ensures),
+    )

@@ -15,7 +15,7 @@ none_named P name (line ∷ declarations) others h = go (bytes_eq line.name name
 pub unreachable-requires : goal.unreachable-requires
 unreachable-requires c =
     let d = c.in_default in
-    none_named _ c.args.name.now lines (d.not-serve, (d.not-import, (d.not-text, (d.not-text-2, (d.not-text-3, (d.not-report, (d.not-solve, (d.not-check, tt)))))))) c.requires
+    none_named _ c.args.name.now lines (d.not-serve, (d.not-import, (d.not-text, (d.not-text-2, (d.not-text-3, (d.not-report, (d.not-solve, (d.not-check, (d.not-publish, (d.not-text-4, tt)))))))))) c.requires
 
 -- These are searched for slowly where they do not hold, so they are given.
 pub returns-in_ok-text-in-text-2 : goal.returns-in_ok-text-in-text-2

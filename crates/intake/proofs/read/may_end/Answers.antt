@@ -1,1 +1,0 @@
-use Rattle.intake.proofs.read.may_end.Goals as goal

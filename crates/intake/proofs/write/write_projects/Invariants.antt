@@ -5,7 +5,6 @@ use Rattle.intake.proofs.write.write_projects.Given as goal
 
 abbrev pub invariant-loop-p : goal.invariant-loop-p
 invariant-loop-p l = record {
-  text : string_bytes l.out ++ project_text l.instance.supervisor_codes (drop l.p l.instance.project_codes) (drop l.p l.instance.shape.projects)
-      ≡ string_bytes l.fn.out ++ project_text l.instance.supervisor_codes l.instance.project_codes l.instance.shape.projects;
-  form : (k : ℕ) (d : List ℕ) → k < l.p → IsTrue (is_code (get_or l.instance.project_codes k d));
+  text : string_bytes l.out ++ project_text l.supervisors (drop l.p l.roll) (drop l.p l.projects) ≡ string_bytes l.fn.out ++ project_text l.supervisors l.roll l.projects;
+  form : (k : ℕ) (d : List ℕ) → k < l.p → IsTrue (is_code (get_or l.roll k d));
 }

@@ -5,7 +5,6 @@ use Rattle.intake.proofs.write.write_supervisors.Given as goal
 
 abbrev pub invariant-loop-l : goal.invariant-loop-l
 invariant-loop-l l = record {
-  text : string_bytes l.out ++ supervisor_text (drop l.l l.instance.supervisor_codes) (drop l.l l.instance.shape.supervisors)
-      ≡ string_bytes l.fn.out ++ supervisor_text l.instance.supervisor_codes l.instance.shape.supervisors;
-  form : (k : ℕ) (d : List ℕ) → k < l.l → IsTrue (is_code (get_or l.instance.supervisor_codes k d));
+  text : string_bytes l.out ++ supervisor_text (drop l.l l.roll) (drop l.l l.quotas) ≡ string_bytes l.fn.out ++ supervisor_text l.roll l.quotas;
+  form : (k : ℕ) (d : List ℕ) → k < l.l → IsTrue (is_code (get_or l.roll k d));
 }

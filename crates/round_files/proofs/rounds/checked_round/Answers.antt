@@ -1,5 +1,5 @@
 use Rattle.std.proofs.Common.{refl}
-use Rattle.round_files.proofs.rounds.checked.Goals as goal
+use Rattle.round_files.proofs.rounds.checked_round.Goals as goal
 
 pub returns-in-Ok : goal.returns-in-Ok
 returns-in-Ok c = record {

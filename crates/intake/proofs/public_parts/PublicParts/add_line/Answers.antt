@@ -1,0 +1,14 @@
+use Rattle.std.proofs.Common.{ℕ, List, All, map, sym, ap, subst, ◌∙◌}
+use Rattle.intake.proofs.Common.{Bor, IfOk-weaker, IsField, line_of}
+use Rattle.intake.specs.Inside.PublicDraft.{AddsPublicLine}
+use Rattle.intake.proofs.Pieces.{pieces_free, line_back}
+use Rattle.intake.proofs.public_parts.PublicParts.add_line.Goals as goal
+
+pub add-requires-clause-fields : goal.add-requires-clause-fields
+add-requires-clause-fields c = subst (All IsField) (sym (ap (map (λ (f : Bor (List ℕ)). f.now)) c.deref.ensures.value ∙ c.in_ok-fields.ensures)) (pieces_free 44 c.args.line.now)
+
+pub returns : goal.returns
+returns c =
+    let l = ap (λ (fs : List (Bor (List ℕ))). line_of (map (λ f. f.now) fs)) c.deref.ensures.value ∙ ap line_of c.in_ok-fields.ensures ∙ line_back c.args.line.now in
+    IfOk-weaker c.add.result (λ b. AddsPublicLine c.args.self.now (line_of (map (λ f. f.now) c.deref.result.now)) c.add.new.self b) (λ b. AddsPublicLine c.args.self.now c.args.line.now c.add.new.self b)
+    (λ b h. subst (λ (x : List ℕ). AddsPublicLine c.args.self.now x c.add.new.self b) l h) c.add.ensures
