@@ -31,7 +31,7 @@ PATH = re.compile(r"`((?:[\w.-]+/)*[\w-]+\.(?:rt|antt|py|md|csv|edit|svg|yaml|c|
 FIGURE = re.compile(r"(?<![\d,.])\d{1,3}(?:,\d{3})+(?![\d,])")
 COMMENT = re.compile(r"\s*(?://|--|why:|# )")
 # files that a school has, or that a line makes
-ELSEWHERE = re.compile(r"(school|later|older|first|round\d*|served|held|monday|tuesday)\b.*")
+ELSEWHERE = re.compile(r"(school|later|older|first|round\d*|served|held|monday|tuesday)\b.*|spadesk\.html")
 # a name in backquotes that is no hash, and the labels after it; files whose words are no names
 NAMED = re.compile(r"`(?![0-9a-f]{40})([^\W\d]\w*(?:(?:::|\.)\w+)*)(?:\(\))?`((?:,?(?: and)? \(?\*\w+\*)*)")
 TEXTS = (".md", ".html", ".yaml", ".csv", ".svg", ".png", ".txt", ".edit")
