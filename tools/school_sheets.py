@@ -6,6 +6,7 @@ import json
 import random
 import re
 
+from messy_sheets import MESSY, NEEDS, NO_SHEETS, SCHOOL
 from people_pages import FOCUS
 
 SUPERVISORS = "code,name,quota\nLIN,Dr Lin Wei,3\nMUELLER,Prof. Seán Müller,4\n"
@@ -41,6 +42,15 @@ GRID = (
     "2026/11/02,eva@uni.example,2,1,\n"
 )
 ANONYMOUS = "ID,Email,Your student number,Wishes\n1,anonymous,4711002,\"1. Rails, 2. Old maps, read anew\"\n"
+
+
+# What stands in the office, by the kind of sheet that brings it in.
+STANDS = {
+    "supervisors": "SELECT code, label, quota FROM supervisor",
+    "projects": "SELECT code, label, supervisor, quota FROM project",
+    "students": "SELECT code, label FROM student",
+    "lists": "SELECT student, project FROM choice12 ORDER BY student, place",
+}
 
 
 class Sheets:
@@ -171,6 +181,51 @@ class Sheets:
             if it.text(".wrong button"):
                 it.press(".wrong button")
             self.check(f"lists of {name}", {at: self.entry(f"/students/471100{at}")["list"] for at in wanted}, wanted)
+
+    def messy(self):
+        """Sheets as schools have them come in as they were meant; what is not meant is named, and nothing else is made."""
+        it = self.it
+        for name, content, words in NO_SHEETS:
+            self.chosen(name, content)
+            self.check(name, (it.text("#chosen").startswith(words), it.text("#send")), (True, None))
+        topics = next(sheet[2] for sheet in MESSY if sheet[0] == "projects_merged")
+        self.chosen("topics.csv", topics)
+        self.read_so("projects")
+        self.check("before the first round", {row[3] for row in it.table(".lost")}, {"choose the sheet of supervisors with this one"})
+        for name, kind, content, *wanted, columns in MESSY:
+            self.anew("messy.db")
+            files = [self.file(f"{before}.csv", SCHOOL[before]) for before in NEEDS[kind]]
+            if kind == "lists":
+                it.choose(*files)
+                it.press("#send")
+                self.does(("POST", "/rounds", None))
+                it.go()
+            it.choose(*(files if kind != "lists" else ()), self.file(f"{name}.csv", content))
+            if it.text(".asked"):
+                it.pick(".asked [name=kind]", kind)
+                for place, key in columns.items():
+                    it.pick(f".asked [name='{place}']", key)
+                it.press(".asked button.main")
+            self.check(name, self.brought(kind), wanted)
+
+    def brought(self, kind):
+        """What is told of a sheet and brought in of it: all that stands, what looked wrong, who is unclear, and the refused rows."""
+        it, doubts = self.it, [[row[0], row[-1]] for row in self.it.table(".doubt")]
+        for css in (".gap", ".doubt"):
+            if it.text(f"{css} button"):
+                it.press(f"{css} button")
+        lost = [[row[0], row[2]] for row in it.table(".lost")]
+        if it.text(".mend button"):
+            it.press(".mend button")
+        left = it.table(".mend")
+        it.press("#send")
+        wrong = [[str(row), reason] for row, reason in self.refused_rows()]
+        if it.text(".wrong button"):
+            it.press(".wrong button")
+        rows = self.rows(STANDS[kind])
+        lists = {row[0]: " ".join(what for who, what, *_ in rows if who == row[0]) for row in rows}
+        there = lists if kind == "lists" else sorted(map(list, rows))
+        return [there, doubts, lost, sorted(wrong, key=lambda row: int(row[0]))] + left
 
     def long(self):
         """A sheet that needs several imports comes in whole, or not at all."""
@@ -309,6 +364,22 @@ class Sheets:
 
 # As those of `people_pages.py`.
 SHEET_MUTANTS = [
+    ("messy", "office.html", '|| text.includes("\\0")', "", "old.csv"),
+    ("messy", "office.html", "rounds.length || sheets.some(it => it.kind === KIND_OF[key])", "true", "before the first round"),
+    ("messy", "office.html", 'bytes[0] === 0xff && bytes[1] === 0xfe ? "utf-16le"', 'false ? "utf-16le"', "unicode_text"),
+    ("messy", "office.html", "99 * sizes.filter(it => it === size).length", "0", "title_alone"),
+    ("messy", "office.html", "if (!isLower || upper.every", "if (true || upper.every", "two_rows_of_headings"),
+    ("messy", "office.html", "if (head.some((cell, at) => !cell &&", "if (head.some((cell, at) => false &&", "columns_without_headings"),
+    ("messy", "office.html", '(kind === "lists" && over.some(', '(kind === "none" && over.some(', "another_word"),
+    ("messy", "office.html", "(titles.length > 1 ?", "(titles.length > 9 ?", "google_grid"),
+    ("messy", "office.html", "|n\\/?a)$/i.test", ")$/i.test", "typing_errors"),
+    ("messy", "office.html", "=== (plainly(title) || code)", "!== title", "french"),
+    ("messy", "office.html", "^(max\\w* |", "^(m\\w* |", "quotas_in_words"),
+    ("messy", "office.html", "[.,]0{1,2}$/", "[.,]0+$/", "quotas_in_words"),
+    ("messy", "office.html", "if (row[2]?.trim()) above = row[2];", "if (row[2]?.trim()) above ||= row[2];", "projects_merged"),
+    ("messy", "office.html", "if (isMail && there.has(student(code.split", "if (false && there.has(student(code.split", "microsoft_forms"),
+    ("messy", "office.html", "row.length === columns(kind).length &&", "", "separator_named"),
+    ("messy", "office.html", '!code.trim() ? "no code?"', 'false ? "no code?"', "footers"),
     ("traps", "office.html", "others.some(word => word.test(plainly(head[at])))", "false", "all of it.csv is asked about"),
     ("traps", "office.html", "(files.length > 0 && !files.includes(kind))", "false", "topics.csv is asked about"),
     ("traps", "office.html", "if (plan.lacking.length) return tell", "if (false) return tell", "what no column has is asked for"),
