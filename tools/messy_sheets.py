@@ -302,7 +302,7 @@ MESSY = [
     sheet(
         "title_alone",
         "lists",
-        lines("Wishes, as of 3 November", "Code;Wish 1;Wish 2", 'S1001;"Optics, old and new";Quantum walks'),
+        lines("Wishes, as of 3 November, for the office, by code", "Code;Wish 1;Wish 2", 'S1001;"Optics, old and new";Quantum walks'),
         {"S1001": "P02 P03"},
         columns={0: "student"},
     ),

@@ -218,7 +218,8 @@ class Sheets:
         if it.text(".mend button"):
             it.press(".mend button")
         left = it.table(".mend")
-        it.press("#send")
+        if it.text("#send"):
+            it.press("#send")
         wrong = [[str(row), reason] for row, reason in self.refused_rows()]
         if it.text(".wrong button"):
             it.press(".wrong button")
