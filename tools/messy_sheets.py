@@ -268,6 +268,27 @@ MESSY = [
         [["123456789013", "Jörg Özdemir"]],
         doubts=[["2", "a long number that was cut?"], ["4", "a formula that failed?"]],
     ),
+    # a note below the students, a date, and a code that two have
+    sheet(
+        "notes_below",
+        "students",
+        lines(
+            "code,name",
+            "S1001,Ada Byron",
+            "S1002,Jörg Özdemir",
+            "s1002,Zoë Brontë",
+            "S1003,Li Wei",
+            "S1004,Seán O'Connor",
+            "Note,Return By Friday",
+            "Stand,12.11.2026",
+        ),
+        [["S1001", "Ada Byron"], ["S1003", "Li Wei"], ["S1004", "Seán O'Connor"]],
+        doubts=[
+            *[[at, "another name has this code?"] for at in "34"],
+            ["7", "a code unlike the others?"],
+            ["8", "a name without a letter?"],
+        ],
+    ),
     # two columns of one heading, a title with a comma, and footers
     sheet(
         "footers",
@@ -310,5 +331,6 @@ MESSY = [
 # What is a workbook or no text is not read: the name, the bytes, and what is said.
 NO_SHEETS = [
     ("workbook.csv", b"PK\x03\x04\x14\x00\x06\x00" + bytes(range(256)) * 8 + b"[Content_Types].xml", "workbook.csv is a workbook"),
+    ("portal.csv", b"<html><body><table><tr><td>code</td></tr></table>", "portal.csv is a workbook"),
     ("old.csv", b"\xd0\xcf\x11\xe0\xa1\xb1\x1a\xe1" + bytes(512), "old.csv is a workbook"),
 ]

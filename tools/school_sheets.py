@@ -207,6 +207,12 @@ class Sheets:
                     it.pick(f".asked [name='{place}']", key)
                 it.press(".asked button.main")
             self.check(name, self.brought(kind), wanted)
+        answers = self.file("answers.csv", "Email,Choice 1\nzoe@uni.example,P01\n")
+        it.choose(answers)
+        self.read_so("lists")
+        self.check("addresses alone", [row[3] for row in it.table(".lost")], ["choose the sheet of students with this one"])
+        it.choose(self.file("roll.csv", "code,name,E-Mail\nS1003,Zoë Brontë,zoe@uni.example\n"), answers)
+        self.check("with those who have them", it.table(".mend")[0], ["2", "student", "zoe@uni.example", "S1003 (Zoë Brontë)"])
 
     def brought(self, kind):
         """What is told of a sheet and brought in of it: all that stands, what looked wrong, who is unclear, and the refused rows."""
@@ -365,8 +371,11 @@ class Sheets:
 
 # As those of `people_pages.py`.
 SHEET_MUTANTS = [
-    ("messy", "office.html", '|| text.includes("\\0")', "", "old.csv"),
-    ("messy", "office.html", "rounds.length || sheets.some(it => it.kind === KIND_OF[key])", "true", "before the first round"),
+    ("messy", "office.html", "/\\0|^\\s*<(", "/^\\s*<(", "old.csv"),
+    ("messy", "office.html", "named.get(upper(code)).size > 1", "named.get(code)?.size > 1", "notes_below"),
+    ("messy", "office.html", "isMostly && !", "!isMostly && !", "notes_below"),
+    ("messy", "office.html", "sheets.some(it => it.kind === KIND_OF[key])", "true", "before the first round"),
+    ("messy", "office.html", 'rounds.length && !cell.includes("@")', "rounds.length", "addresses alone"),
     ("messy", "office.html", 'bytes[0] === 0xff && bytes[1] === 0xfe ? "utf-16le"', 'false ? "utf-16le"', "unicode_text"),
     ("messy", "office.html", "99 * sizes.filter(it => it === size).length", "0", "title_alone"),
     ("messy", "office.html", "if (!isLower || upper.every", "if (true || upper.every", "two_rows_of_headings"),

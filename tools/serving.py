@@ -80,13 +80,15 @@ for page in sorted(pathlib.Path(".").rglob("*.md")):
 END'''
 MARK = "and the next command"
 OLDER = "2026.01.01.1"
+SITE = "/etc/nginx/sites-available/spadesk"  # in which each school has its own server's name
 # what is tried after the first block, and after the page, and what it prints
 INSTALLED = [("(cd / && sha256sum --quiet -c usr/share/doc/spadesk/SHA256SUMS)", ""), (LINKS, "")]
 # a student who comes late, in a sheet of another country: the block of the passwords is run again
 LATE = r"printf 'account;code\nAnna.Meyer@uni.example;S01\nc.diaz@uni.example;S03\n' > student-accounts.csv"
 PASSWORDS = re.search(r"```sh\n(mkdir[^`]*)```", read("docs", "SERVING.md"))[1]
 BEHIND = [
-    ("dpkg-query -W -f '${Version}\\n' spadesk; head -n 1 /etc/nginx/sites-available/spadesk", f"{OLDER}\n# as it was in {OLDER}\n"),
+    (f"dpkg-query -W -f '${{Version}}\\n' spadesk; head -n 1 {SITE}", f"{OLDER}\n# as it was in {OLDER}\n"),
+    (f"tail -n 1 {SITE}.dpkg-old", "# our own line\n"),
     ("systemd-analyze verify /lib/systemd/system/spadesk*.service /lib/systemd/system/spadesk-copy.timer", ""),
     (f"{LATE}; {PASSWORDS}cut -d: -f1 letters/students", "anna.meyer@uni.example\nben.okafor@uni.example\nc.diaz@uni.example\n"),
     ("grep -c ^spadesk: /etc/passwd; stat -c '%A %U' /var/lib/spadesk", "1\ndrwx------ spadesk\n"),
@@ -230,6 +232,8 @@ def ran(machine, kind, commands):
 def steps(machine):
     """The same of all blocks, of what is tried behind them, and of the page that checks, where there is a browser."""
     for number, block in enumerate(blocks(read("docs", "SERVING.md"))):
+        if "Dpkg::Options" in block[1][0][0] or "OLD.deb" in block[1][0][0]:
+            machine.run(f"echo '# our own line' >> {SITE}")
         yield from ran(machine, *block)
         if number == 0:
             yield from ran(machine, "console", INSTALLED)
