@@ -141,7 +141,7 @@ def ordinal(rank):
 SHEETS = ("habits", "traps", "exports", "messy", "long", "acts", "further")
 OFFICE = ("first_round", "term", *SHEETS, "hostile", "refusals", "mistakes", "drawn", "greatest")
 PARTS = (*OFFICE, "student", "roles", "held", "keyboard", "phone", "supervisor", "older")
-IN_FIREFOX = ("first_round", "habits", "messy", "drawn", "student")
+IN_FIREFOX = ("first_round", "habits", "traps", "exports", "messy", "acts", "drawn", "student", "held")
 PAGES = ("office.html", "student.html", "supervisor.html", "check.html")
 SERVICE, WEB, REDIRECTED, DRIVER = (free_port() for _ in range(4))
 
