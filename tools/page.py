@@ -69,6 +69,7 @@ OFFICE_MUTANTS = [
     ("habits", "office.html", "plans.set(head.join()", "plans.set(sheet.name", "a first row that was asked about"),
     ("habits", "office.html", "isDoubtful(at) || others", "others", "numbers under another word are asked after"),
     ("refusals", "office.html", '[el("b", {}, what), then]', "[then]", "refusal 28 "),
+    ("refusals", "office.html", 'document.body.classList.add("busy");', "", "a sign while the service is slow"),
     ("mistakes", "office.html", "(size > room && found.at(-1).length)", "(false)", "long.csv, its rows"),
     ("drawn", "office.html", "const FEW = 20;", "const FEW = 200;", "folded"),
     ("drawn", "office.html", "Math.sign(order) * compare", "compare", "and back"),
@@ -1291,6 +1292,12 @@ class Trial(People, Sheets):
             self.it.press("#asked button")
             title = "Refusal 4, TooLarge" if status == 413 else f"The web server answers {status}."
             self.check(f"status {status}", (title in self.it.text("#told"), words in self.it.text("#told")), (True, True))
+        self.it.run("window.fetch = () => new Promise(done => { window.answer = () => done(new Response('')) })")
+        self.it.run("document.querySelector('#asked button').click()")
+        sign = "const it = getComputedStyle(document.body, '::before'); return [it.position, it.height, it.animationName]"
+        self.check("a sign while the service is slow", self.it.run(sign), ["fixed", "4px", "go"])
+        self.it.run("window.answer(); window.fetch = () => Promise.resolve(new Response('', { status: 504 }))")
+        self.it.rest()
         self.it.run("return ask('PUT', '/students/S1').catch(tellRefusal)")
         words = "what was sent may still be done. Load this page again and look before you send it again."
         self.check("no answer to a change", words in self.it.text("#told"))

@@ -404,9 +404,9 @@ SHEET_MUTANTS = [
     ("traps", "office.html", "plan.isHeadless ? 0 : 1", "1", "a first row that is an entry"),
     ("exports", "office.html", "const only = codes => (codes.length === 1 ?", "const only = codes => (codes.length ?", "two of one title"),
     ("exports", "office.html", "if (isGrid(head, row, from)) return", "if (false) return", "lists of grid.csv"),
-    ("exports", "office.html", "student (code|id|no|number)|id number", "^id number", "lists of anonymous.csv"),
+    ("exports", "office.html", "(student|matriculation) (code|id|no|number)|id number", "^id number", "lists of anonymous.csv"),
     ("exports", "office.html", "inOrder(head, of(key)) :", "of(key) :", "lists of Form Responses 1.csv"),
-    ("exports", "office.html", "one(pieces.slice(0, most).join(\",\"))", "one(pieces[0])", "lists of Project wishes(1-2).csv"),
+    ("exports", "office.html", "projectIn(pieces.slice(0, most).join(\",\"))", "projectIn(pieces[0])", "lists of Project wishes(1-2).csv"),
     ("exports", "office.html", '.sort().join(" "));', '.join(" "));', "supervisors by name"),
     (
         "acts",
