@@ -213,6 +213,9 @@ class Sheets:
         self.check("addresses alone", [row[3] for row in it.table(".lost")], ["choose the sheet of students with this one"])
         it.choose(self.file("roll.csv", "code,name,E-Mail\nS1003,Zoë Brontë,zoe@uni.example\n"), answers)
         self.check("with those who have them", it.table(".mend")[0], ["2", "student", "zoe@uni.example", "S1003 (Zoë Brontë)"])
+        it.press(".mend button")
+        it.press("#send")
+        self.check("told with a sheet that need not come in", it.text("#told").startswith("All imported: answers.csv, 1 row: 1 new."))
 
     def brought(self, kind):
         """What is told of a sheet and brought in of it: all that stands, what looked wrong, who is unclear, and the refused rows."""
@@ -375,6 +378,7 @@ SHEET_MUTANTS = [
     ("messy", "office.html", "named.get(upper(code)).size > 1", "named.get(code)?.size > 1", "notes_below"),
     ("messy", "office.html", "isMostly && !", "!isMostly && !", "notes_below"),
     ("messy", "office.html", "sheets.some(it => it.kind === KIND_OF[key])", "true", "before the first round"),
+    ("messy", "office.html", "it => it.told || it.isOld", "it => it.told", "told with a sheet that need not come in"),
     ("messy", "office.html", 'rounds.length && !cell.includes("@")', "rounds.length", "addresses alone"),
     ("messy", "office.html", 'bytes[0] === 0xff && bytes[1] === 0xfe ? "utf-16le"', 'false ? "utf-16le"', "unicode_text"),
     ("messy", "office.html", "99 * sizes.filter(it => it === size).length", "0", "title_alone"),
