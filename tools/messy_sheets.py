@@ -260,6 +260,7 @@ MESSY = [
         doubts=[["5", "a row of totals?"]],
         wrong=[["3", 8]],
     ),
+    sheet("separator_named_alone", "students", lines("sep=,", "code,name", "S1001,Ada Byron"), [["S1001", "Ada Byron"]]),
     # numbers that a spreadsheet has cut short, and a formula that failed
     sheet(
         "cut_numbers",

@@ -69,7 +69,7 @@ OFFICE_MUTANTS = [
     ("habits", "office.html", "plans.set(head.join()", "plans.set(sheet.name", "a first row that was asked about"),
     ("habits", "office.html", "isDoubtful(at) || others", "others", "numbers under another word are asked after"),
     ("refusals", "office.html", '[el("b", {}, what), then]', "[then]", "refusal 28 "),
-    ("refusals", "office.html", 'document.body.classList.add("busy");', "", "a sign while the service is slow"),
+    ("refusals", "office.html", "animation: go 1s linear 1s infinite;", "", "a sign while the service is slow"),
     ("mistakes", "office.html", "(size > room && found.at(-1).length)", "(false)", "long.csv, its rows"),
     ("drawn", "office.html", "const FEW = 20;", "const FEW = 200;", "folded"),
     ("drawn", "office.html", "Math.sign(order) * compare", "compare", "and back"),
@@ -1177,6 +1177,7 @@ class Trial(People, Sheets):
         )
         for at in range(200):
             asked("POST", f"/imports/students/N{at}", body="code,name\n")
+        time.sleep(1)  # nginx writes down a request after it was answered
         start = self.sent()
         self.refused("lost.csv", "code,name\ns1,Name\nS91,Name\n", 12)
         self.check("no room for an import, once", self.sent() - start, 1)

@@ -378,6 +378,7 @@ SHEET_MUTANTS = [
     ("messy", "office.html", "named.get(upper(code)).size > 1", "named.get(code)?.size > 1", "notes_below"),
     ("messy", "office.html", "isMostly && !", "!isMostly && !", "notes_below"),
     ("messy", "office.html", "sheets.some(it => it.kind === KIND_OF[key])", "true", "before the first round"),
+    ("messy", "office.html", "if (text !== whole) notes.push", "if (false) notes.push", "separator_named_alone"),
     ("messy", "office.html", "it => it.told || it.isOld", "it => it.told", "told with a sheet that need not come in"),
     ("messy", "office.html", 'rounds.length && !cell.includes("@")', "rounds.length", "addresses alone"),
     ("messy", "office.html", 'bytes[0] === 0xff && bytes[1] === 0xfe ? "utf-16le"', 'false ? "utf-16le"', "unicode_text"),
