@@ -609,9 +609,21 @@ class People:
 # The part that has the trial, the file, what stands there, what a mutant has in its place, and the trial that must fail.
 MUTANTS = [
     ("student", "student.html", "/ 2 ** 32", "/ 2 ** 33", "the own number"),
-    ("student", "student.html", "opened again.\", ...equals]", "opened again.\"]", "and the number with it"),
+    (
+        "student",
+        "student.html",
+        "[round, equals] = [await lastRound(), await numbered()]",
+        "round = await lastRound()",
+        "and the number with it",
+    ),
     ("keyboard", "student.html", "  cards.get(code).add.after(skip);\n", "", "the next stop behind what was added"),
-    ("older", "student.html", "var(--card); border-top: 2px", "light-dark(#fff, #000); border-top: 2px", "/student/ in an older browser, light"),
+    (
+        "older",
+        "student.html",
+        "var(--card); border-top: 2px",
+        "light-dark(#fff, #000); border-top: 2px",
+        "/student/ in an older browser, light",
+    ),
     ("keyboard", "student.html", "byId(held)?.focus();", "", "moved down"),
     ("keyboard", "student.html", "await look(now).catch", "await start().catch", "requests of handing in"),
     ("keyboard", "student.html", "    tell(done());", "    await look(now);\n    tell(done());", "told before it is read"),
