@@ -7,7 +7,14 @@ import time
 
 from office import free_port
 
-WORDS = {"url": "Navigate", "sync": "ExecuteScript", "element": "FindElement", "click": "ElementClick", "value": "ElementSendKeys"}
+WORDS = {
+    "url": "Navigate",
+    "sync": "ExecuteScript",
+    "element": "FindElement",
+    "click": "ElementClick",
+    "value": "ElementSendKeys",
+    "actions": "PerformActions",
+}
 PREFS = {
     "browser.download.folderList": 2,
     "browser.download.always_ask_before_handling_new_types": False,

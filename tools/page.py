@@ -32,7 +32,7 @@ import time
 from firefox import Firefox
 from nginx import plain, started
 from office import TOP, copy, free_port, read, serving
-from people_pages import MUTANTS, People
+from people_pages import MUTANTS, People, numbered
 from school_sheets import SHEET_MUTANTS, Sheets
 from sheets import guided
 
@@ -54,6 +54,7 @@ OFFICE_MUTANTS = [
     ("first_round", "check.html", "|| bytes.includes(0x0d)", "", "a proof that was saved anew"),
     ("first_round", "check.html", "sum + Number(row.at(-1))", "sum + 1", "what no proof can vouch for"),
     ("first_round", "check.html", "list?.indexOf(place) + 1}", "list?.indexOf(place)}", "the list of S01"),
+    ("first_round", "check.html", "[await number(code), code]))).sort()", "[await number(code), code])))", "the list of S01"),
     ("first_round", "check.html", '"page_check", bytes', '"page_solve", bytes', "by check.html: ''"),
     ("first_round", "office.html", "`Open round ${rounds.length + 1}`))) return;", "`Open round ${rounds.length + 1}`))) ;", "not opened"),
     ("drawn", "office.html", "`Round ${before.round} can then not", "`Round ${before.round} may then not", "what becomes final is said"),
@@ -68,6 +69,7 @@ OFFICE_MUTANTS = [
     ("habits", "office.html", "plans.set(head.join()", "plans.set(sheet.name", "a first row that was asked about"),
     ("habits", "office.html", "isDoubtful(at) || others", "others", "numbers under another word are asked after"),
     ("refusals", "office.html", '[el("b", {}, what), then]', "[then]", "refusal 28 "),
+    ("refusals", "office.html", "animation: go 1s linear 1s infinite;", "", "a sign while the service is slow"),
     ("mistakes", "office.html", "(size > room && found.at(-1).length)", "(false)", "long.csv, its rows"),
     ("drawn", "office.html", "const FEW = 20;", "const FEW = 200;", "folded"),
     ("drawn", "office.html", "Math.sign(order) * compare", "compare", "and back"),
@@ -137,10 +139,10 @@ def ordinal(rank):
     return f"{rank}{({1: 'st', 2: 'nd', 3: 'rd'}).get(rank, 'th')}"
 
 
-SHEETS = ("habits", "traps", "exports", "long", "acts", "further")
+SHEETS = ("habits", "traps", "exports", "messy", "long", "acts", "further")
 OFFICE = ("first_round", "term", *SHEETS, "hostile", "refusals", "mistakes", "drawn", "greatest")
-PARTS = (*OFFICE, "student", "roles", "held", "keyboard", "phone", "supervisor")
-IN_FIREFOX = ("first_round", "habits", "drawn", "student")
+PARTS = (*OFFICE, "student", "roles", "held", "keyboard", "phone", "supervisor", "older")
+IN_FIREFOX = ("first_round", "habits", "traps", "exports", "messy", "acts", "drawn", "student", "held")
 PAGES = ("office.html", "student.html", "supervisor.html", "check.html")
 SERVICE, WEB, REDIRECTED, DRIVER = (free_port() for _ in range(4))
 
@@ -303,7 +305,8 @@ class Browser:
 
 class Trial(People, Sheets):
     REDIRECTED = REDIRECTED
-    answer_to, asked, ordinal, KEEPER = staticmethod(answer_to), staticmethod(asked), staticmethod(ordinal), KEEPER
+    answer_to, asked, ordinal, sealed = map(staticmethod, (answer_to, asked, ordinal, sealed))
+    KEEPER, PAGES = KEEPER, PAGES
 
     def __init__(self, program, folder, shots):
         self.program, self.folder, self.shots, self.came = program, folder, shots, []
@@ -548,9 +551,12 @@ class Trial(People, Sheets):
         self.check("what no proof can vouch for", "what the file says: 20 lists, 10 projects with 25 places, and 5 super" in it.text("#said"))
         rows = [line.split(",") for line in proof.splitlines()]
         places = {row[1]: row[2] for row in rows if row[0] == "M"}
+        numbers = sorted(numbered(row[1]) for row in rows if row[0] == "C")
         for code, *choices in (row[1:] for row in rows if row[0] == "C" and row[1] in codes):
             it.write("#code", code.lower())
             has = f"You have {places[code]}, your choice {choices.index(places[code]) + 1}." if code in places else "You have no place."
+            has += " Between students with equal claims the lower number goes first. Yours, "
+            has += f"{numbered(code)[:8]}…, is number {numbers.index(numbered(code)) + 1} of 20 in this round. It is made of your code alone."
             self.check(f"the list of {code}", it.text("#mine"), f"Your list: {', '.join(choices)}. {has}")
         it.write("#code", "NOBODY")
         self.check("a code without a list", it.text("#mine"), "This code has no list in the round.")
@@ -979,23 +985,14 @@ class Trial(People, Sheets):
 
     def looked(self, kind, name, content, rows, marks, empty=()):
         """A sheet is refused: each of its wrong rows is told with its reason, by the page and by tools/sheets.py, and nothing came in."""
-        it, before = self.it, self.kept()
+        it, before = self.it, self.rows()
         it.choose(self.file(name, content))
         start = self.sent()
         it.press("#send")
-        told = [
-            (int(number[0]), reason)
-            for reason, cells in it.run(
-                "const reason = it => Number.parseInt(it.closest('div').previousSibling.querySelector('span').textContent.split(' ')[1]);"
-                "const numbers = it => [...it.tBodies[0].rows].map(row => [row.cells[0].textContent]);"
-                "return [...document.querySelectorAll('.wrong table')].map(it => [reason(it), numbers(it)])"
-            )
-            for number in cells
-        ]
-        self.check(f"{name}: the rows", sorted(told), rows)
+        self.check(f"{name}: the rows", sorted(self.refused_rows()), rows)
         self.check("marks", it.marks(), marks)
         self.check("requests", self.sent() - start, len(rows) + 2)
-        self.check("nothing came in", self.kept(), before)
+        self.check("nothing came in", self.rows(), before)
         words = self.sheets(kind, f"{self.folder}/{name}")
         found = [
             (int(row), int(reason))
@@ -1007,11 +1004,20 @@ class Trial(People, Sheets):
         )
         return words
 
-    def kept(self):
-        """The tables of the office."""
+    def refused_rows(self):
+        """The rows of a sheet that the page names as refused, each with the number of its reason."""
+        found = self.it.run(
+            "const reason = it => Number.parseInt(it.closest('div').previousSibling.querySelector('span').textContent.split(' ')[1]);"
+            "const numbers = it => [...it.tBodies[0].rows].map(row => Number.parseInt(row.cells[0].textContent));"
+            "return [...document.querySelectorAll('.wrong table')].map(it => [reason(it), numbers(it)])"
+        )
+        return [(number, reason) for reason, numbers in found for number in numbers]
+
+    def rows(self, query=None):
+        """The rows of a query of the office's tables, or all that is in them."""
         self.line("report", "DB", "profile", "1")  # on a copy, into which it brings the log
         with contextlib.closing(sqlite3.connect(f"{self.folder}/copy.db")) as it:
-            return list(it.iterdump())
+            return list(it.execute(query) if query else it.iterdump())
 
     def sent(self):
         with open(f"{self.folder}/asked") as file:
@@ -1171,6 +1177,7 @@ class Trial(People, Sheets):
         )
         for at in range(200):
             asked("POST", f"/imports/students/N{at}", body="code,name\n")
+        time.sleep(1)  # nginx writes down a request after it was answered
         start = self.sent()
         self.refused("lost.csv", "code,name\ns1,Name\nS91,Name\n", 12)
         self.check("no room for an import, once", self.sent() - start, 1)
@@ -1286,6 +1293,12 @@ class Trial(People, Sheets):
             self.it.press("#asked button")
             title = "Refusal 4, TooLarge" if status == 413 else f"The web server answers {status}."
             self.check(f"status {status}", (title in self.it.text("#told"), words in self.it.text("#told")), (True, True))
+        self.it.run("window.fetch = () => new Promise(done => { window.answer = () => done(new Response('')) })")
+        self.it.run("document.querySelector('#asked button').click()")
+        sign = "const it = getComputedStyle(document.body, '::before'); return [it.position, it.height, it.animationName]"
+        self.check("a sign while the service is slow", self.it.run(sign), ["fixed", "4px", "go"])
+        self.it.run("window.answer(); window.fetch = () => Promise.resolve(new Response('', { status: 504 }))")
+        self.it.rest()
         self.it.run("return ask('PUT', '/students/S1').catch(tellRefusal)")
         words = "what was sent may still be done. Load this page again and look before you send it again."
         self.check("no answer to a change", words in self.it.text("#told"))

@@ -4,6 +4,7 @@ A mutant is a page, or the file of nginx, with one mistake in it: `tools/page.py
 """
 import contextlib
 import csv
+import hashlib
 import io
 import json
 import pathlib
@@ -49,6 +50,19 @@ const note = () => said.push([document.getElementById('told').textContent, docum
   performance.getEntriesByType('resource').length]);
 const all = { subtree: true, childList: true, characterData: true, attributes: true };
 new MutationObserver(note).observe(document.getElementById('bar'), all)"""
+
+
+# Which buttons and fields have neither a border nor a ground of their own, and whether the bar and the parts of a page have a ground.
+LOOKS = """const look = it => getComputedStyle(it), solid = it => !/, 0\\)$|^transparent$/.test(look(it).backgroundColor);
+const isEdged = it => look(it).borderTopStyle === 'solid' && look(it).borderTopWidth !== '0px';
+const all = [...document.querySelectorAll('main button, main input')].filter(it => it.checkVisibility() && !it.closest('th'));
+const grounds = [...document.querySelectorAll('#bar, section')];
+return [all.filter(it => !isEdged(it) && !solid(it)).map(it => it.id || it.textContent), grounds.every(solid)]"""
+
+
+def numbered(code):
+    """The number of a student, by which the lot goes."""
+    return hashlib.sha256(code.encode()).hexdigest()
 
 
 class People:
@@ -160,6 +174,10 @@ class People:
         ]
         self.check("projects with a place", it.run(CARDS), wanted)
         self.check("the aim", f"it takes one with {AIMS['generous']}" in it.text("#me"))
+        number = numbered("S02")
+        share = round(100 * int(number[:8], 16) / 2**32)
+        lot = f"Yours begins with {number[:8]}: of 100 students some {share} come before you. It is made of your code S02 alone"
+        self.check("the own number", lot in it.text("#me"))
         self.check("no word that is not explained", re.findall("greedy|generous|twelfth", it.text("body")), [])
         it.write("#filter", "turing")
         self.check("the filter", it.run(CARDS), [row for row in wanted if row[1] == "Alan Turing"])
@@ -214,6 +232,7 @@ class People:
         it.go("/student/", STUDENT)
         self.check("a place", "You have “Breaking an old cipher”, with Alan Turing." in it.text("#me"))
         self.check("which", "It is your 2nd choice, from round 1." in it.text("#me"))
+        self.check("and the number with it", lot in it.text("#me"))
         self.check("no list any more", it.run("return document.querySelector('#mine').hidden"), True)
         self.fits("a place")
 
@@ -330,6 +349,11 @@ class People:
             self.tabbed(f"Add {title}")
             self.keyed("Enter")
             self.acted(f"added, {at}", f"Added as choice {at}: {title}.", f"{title}: choice {at}")
+        self.keyed("Tab")
+        self.check("the next stop behind what was added", (it.run(FOCUS), it.run(SEEN)[1]), ("To “Hand in”", True))
+        self.keyed("Enter")
+        self.check("goes to the end", it.run(FOCUS), "Hand in my list")
+        self.tabbed(f"{second}: choice 3")
         self.keyed("Enter")
         self.acted("added already", f"It is choice 3 already: {second}.", f"{second}: choice 3")
         self.tabbed(f"{third}: down", back=True)
@@ -470,6 +494,24 @@ class People:
         self.beside("closes.txt")
         self.beside("about")
 
+    def older(self):
+        """The pages where a browser knows none of the newest words of CSS: what is a button looks like one, and no text shows through."""
+        it, whole = self.it, {}
+        self.school()
+        self.does(("POST", "/rounds", None), ("PUT", "/lists/S02", {"choices": ["BUGS"]}))
+        for name in self.PAGES:
+            path = pathlib.Path(self.folder, "page", name)
+            whole[path] = path.read_text(encoding="utf-8")
+            path.write_text(self.sealed(re.sub(r"light-dark\(|color-mix\(|:has\(", "unknown(", whole[path])), encoding="utf-8")
+        for path, user in (("/", self.KEEPER), ("/student/", STUDENT), ("/supervisor/", SUPERVISOR), ("/check.html", self.KEEPER)):
+            it.go(path, user)
+            for scheme in ("light", "dark"):
+                it.chrome("Emulation.setEmulatedMedia", features=[{"name": "prefers-color-scheme", "value": scheme}])
+                self.check(f"{path} in an older browser, {scheme}", (it.run(LOOKS), it.run(PALE)), ([[], True], []))
+        it.chrome("Emulation.setEmulatedMedia", features=[])
+        for path, text in whole.items():
+            path.write_text(text, encoding="utf-8")
+
     def supervisor(self):
         """The page of a supervisor, against what the program prints of this supervisor."""
         it = self.it
@@ -566,6 +608,22 @@ class People:
 
 # The part that has the trial, the file, what stands there, what a mutant has in its place, and the trial that must fail.
 MUTANTS = [
+    ("student", "student.html", "/ 2 ** 32", "/ 2 ** 33", "the own number"),
+    (
+        "student",
+        "student.html",
+        "[round, equals] = [await lastRound(), await numbered()]",
+        "round = await lastRound()",
+        "and the number with it",
+    ),
+    ("keyboard", "student.html", "  cards.get(code).add.after(skip);\n", "", "the next stop behind what was added"),
+    (
+        "older",
+        "student.html",
+        "var(--card); border-top: 2px",
+        "light-dark(#fff, #000); border-top: 2px",
+        "/student/ in an older browser, light",
+    ),
     ("keyboard", "student.html", "byId(held)?.focus();", "", "moved down"),
     ("keyboard", "student.html", "await look(now).catch", "await start().catch", "requests of handing in"),
     ("keyboard", "student.html", "    tell(done());", "    await look(now);\n    tell(done());", "told before it is read"),

@@ -6,6 +6,7 @@ import json
 import random
 import re
 
+from messy_sheets import MESSY, NEEDS, NO_SHEETS, SCHOOL
 from people_pages import FOCUS
 
 SUPERVISORS = "code,name,quota\nLIN,Dr Lin Wei,3\nMUELLER,Prof. Seán Müller,4\n"
@@ -41,6 +42,15 @@ GRID = (
     "2026/11/02,eva@uni.example,2,1,\n"
 )
 ANONYMOUS = "ID,Email,Your student number,Wishes\n1,anonymous,4711002,\"1. Rails, 2. Old maps, read anew\"\n"
+
+
+# What stands in the office, by the kind of sheet that brings it in.
+STANDS = {
+    "supervisors": "SELECT code, label, quota FROM supervisor",
+    "projects": "SELECT code, label, supervisor, quota FROM project",
+    "students": "SELECT code, label FROM student",
+    "lists": "SELECT student, project FROM choice12 ORDER BY student, place",
+}
 
 
 class Sheets:
@@ -171,6 +181,61 @@ class Sheets:
             if it.text(".wrong button"):
                 it.press(".wrong button")
             self.check(f"lists of {name}", {at: self.entry(f"/students/471100{at}")["list"] for at in wanted}, wanted)
+
+    def messy(self):
+        """Sheets as schools have them come in as they were meant; what is not meant is named, and nothing else is made."""
+        it = self.it
+        for name, content, words in NO_SHEETS:
+            self.chosen(name, content)
+            self.check(name, (it.text("#chosen").startswith(words), it.text("#send")), (True, None))
+        topics = next(sheet[2] for sheet in MESSY if sheet[0] == "projects_merged")
+        self.chosen("topics.csv", topics)
+        self.read_so("projects")
+        self.check("before the first round", {row[3] for row in it.table(".lost")}, {"choose the sheet of supervisors with this one"})
+        for name, kind, content, *wanted, columns in MESSY:
+            self.anew("messy.db")
+            files = [self.file(f"{before}.csv", SCHOOL[before]) for before in NEEDS[kind]]
+            if kind == "lists":
+                it.choose(*files)
+                it.press("#send")
+                self.does(("POST", "/rounds", None))
+                it.go()
+            it.choose(*(files if kind != "lists" else ()), self.file(f"{name}.csv", content))
+            if it.text(".asked"):
+                it.pick(".asked [name=kind]", kind)
+                for place, key in columns.items():
+                    it.pick(f".asked [name='{place}']", key)
+                it.press(".asked button.main")
+            self.check(name, self.brought(kind), wanted)
+        answers = self.file("answers.csv", "Email,Choice 1\nzoe@uni.example,P01\n")
+        it.choose(answers)
+        self.read_so("lists")
+        self.check("addresses alone", [row[3] for row in it.table(".lost")], ["choose the sheet of students with this one"])
+        it.choose(self.file("roll.csv", "code,name,E-Mail\nS1003,Zoë Brontë,zoe@uni.example\n"), answers)
+        self.check("with those who have them", it.table(".mend")[0], ["2", "student", "zoe@uni.example", "S1003 (Zoë Brontë)"])
+        it.press(".mend button")
+        it.press("#send")
+        self.check("told with a sheet that need not come in", it.text("#told").startswith("All imported: answers.csv, 1 row: 1 new."))
+
+    def brought(self, kind):
+        """What is told of a sheet and brought in of it: all that stands, what looked wrong, who is unclear, and the refused rows."""
+        it, doubts = self.it, [[row[0], row[-1]] for row in self.it.table(".doubt")]
+        for css in (".gap", ".doubt"):
+            if it.text(f"{css} button"):
+                it.press(f"{css} button")
+        lost = [[row[0], row[2]] for row in it.table(".lost")]
+        if it.text(".mend button"):
+            it.press(".mend button")
+        left = it.table(".mend")
+        if it.text("#send"):
+            it.press("#send")
+        wrong = [[str(row), reason] for row, reason in self.refused_rows()]
+        if it.text(".wrong button"):
+            it.press(".wrong button")
+        rows = self.rows(STANDS[kind])
+        lists = {row[0]: " ".join(what for who, what, *_ in rows if who == row[0]) for row in rows}
+        there = lists if kind == "lists" else sorted(map(list, rows))
+        return [there, doubts, lost, sorted(wrong, key=lambda row: int(row[0]))] + left
 
     def long(self):
         """A sheet that needs several imports comes in whole, or not at all."""
@@ -309,6 +374,27 @@ class Sheets:
 
 # As those of `people_pages.py`.
 SHEET_MUTANTS = [
+    ("messy", "office.html", "/\\0|^\\s*<(", "/^\\s*<(", "old.csv"),
+    ("messy", "office.html", "named.get(upper(code)).size > 1", "named.get(code)?.size > 1", "notes_below"),
+    ("messy", "office.html", "isMostly && !", "!isMostly && !", "notes_below"),
+    ("messy", "office.html", "sheets.some(it => it.kind === KIND_OF[key])", "true", "before the first round"),
+    ("messy", "office.html", "if (text !== whole) notes.push", "if (false) notes.push", "separator_named_alone"),
+    ("messy", "office.html", "it => it.told || it.isOld", "it => it.told", "told with a sheet that need not come in"),
+    ("messy", "office.html", 'rounds.length && !cell.includes("@")', "rounds.length", "addresses alone"),
+    ("messy", "office.html", 'bytes[0] === 0xff && bytes[1] === 0xfe ? "utf-16le"', 'false ? "utf-16le"', "unicode_text"),
+    ("messy", "office.html", "99 * sizes.filter(it => it === size).length", "0", "title_alone"),
+    ("messy", "office.html", "if (!isLower || upper.every", "if (true || upper.every", "two_rows_of_headings"),
+    ("messy", "office.html", "if (head.some((cell, at) => !cell &&", "if (head.some((cell, at) => false &&", "columns_without_headings"),
+    ("messy", "office.html", '(kind === "lists" && over.some(', '(kind === "none" && over.some(', "another_word"),
+    ("messy", "office.html", "(titles.length > 1 ?", "(titles.length > 9 ?", "google_grid"),
+    ("messy", "office.html", "|n\\/?a)$/i.test", ")$/i.test", "typing_errors"),
+    ("messy", "office.html", "=== (plainly(title) || code)", "!== title", "french"),
+    ("messy", "office.html", "^(max\\w* |", "^(m\\w* |", "quotas_in_words"),
+    ("messy", "office.html", "[.,]0{1,2}$/", "[.,]0+$/", "quotas_in_words"),
+    ("messy", "office.html", "if (row[2]?.trim()) above = row[2];", "if (row[2]?.trim()) above ||= row[2];", "projects_merged"),
+    ("messy", "office.html", "if (isMail && there.has(student(code.split", "if (false && there.has(student(code.split", "microsoft_forms"),
+    ("messy", "office.html", "row.length === columns(kind).length &&", "", "separator_named"),
+    ("messy", "office.html", '!code.trim() ? "no code?"', 'false ? "no code?"', "footers"),
     ("traps", "office.html", "others.some(word => word.test(plainly(head[at])))", "false", "all of it.csv is asked about"),
     ("traps", "office.html", "(files.length > 0 && !files.includes(kind))", "false", "topics.csv is asked about"),
     ("traps", "office.html", "if (plan.lacking.length) return tell", "if (false) return tell", "what no column has is asked for"),
@@ -323,9 +409,9 @@ SHEET_MUTANTS = [
     ("traps", "office.html", "plan.isHeadless ? 0 : 1", "1", "a first row that is an entry"),
     ("exports", "office.html", "const only = codes => (codes.length === 1 ?", "const only = codes => (codes.length ?", "two of one title"),
     ("exports", "office.html", "if (isGrid(head, row, from)) return", "if (false) return", "lists of grid.csv"),
-    ("exports", "office.html", "student (code|id|no|number)|id number", "^id number", "lists of anonymous.csv"),
+    ("exports", "office.html", "(student|matriculation) (code|id|no|number)|id number", "^id number", "lists of anonymous.csv"),
     ("exports", "office.html", "inOrder(head, of(key)) :", "of(key) :", "lists of Form Responses 1.csv"),
-    ("exports", "office.html", "one(pieces.slice(0, most).join(\",\"))", "one(pieces[0])", "lists of Project wishes(1-2).csv"),
+    ("exports", "office.html", "projectIn(pieces.slice(0, most).join(\",\"))", "projectIn(pieces[0])", "lists of Project wishes(1-2).csv"),
     ("exports", "office.html", '.sort().join(" "));', '.join(" "));', "supervisors by name"),
     (
         "acts",

@@ -3,7 +3,7 @@
 
 tools/serving.py PACKAGE ROOT     as root; needs systemd-container and util-linux, and for one step chromium and chromium-driver
 
-PACKAGE is what tools/release made. ROOT is a folder as `debootstrap --variant=minbase bookworm ROOT` leaves it; it stays as it is, under a
+PACKAGE is what tools/release made; an older one, to which the page goes back, is made of it. ROOT is a folder as `debootstrap --variant=minbase bookworm ROOT` leaves it; it stays as it is, under a
 layer that goes at the end. The layer gets systemd and slapd, the directory of a school with three people, and is booted as a machine of
 its own by systemd-nspawn. A block of `sh` must end with status 0; a block of `console` prints what stands there. What has the word apt is
 run in the network of this machine, and all else in one of its own, so that no port is taken here. The files of the package are compared
@@ -79,12 +79,16 @@ for page in sorted(pathlib.Path(".").rglob("*.md")):
             print(page, link)
 END'''
 MARK = "and the next command"
+OLDER = "2026.01.01.1"
+SITE = "/etc/nginx/sites-available/spadesk"  # in which each school has its own server's name
 # what is tried after the first block, and after the page, and what it prints
 INSTALLED = [("(cd / && sha256sum --quiet -c usr/share/doc/spadesk/SHA256SUMS)", ""), (LINKS, "")]
 # a student who comes late, in a sheet of another country: the block of the passwords is run again
 LATE = r"printf 'account;code\nAnna.Meyer@uni.example;S01\nc.diaz@uni.example;S03\n' > student-accounts.csv"
 PASSWORDS = re.search(r"```sh\n(mkdir[^`]*)```", read("docs", "SERVING.md"))[1]
 BEHIND = [
+    (f"dpkg-query -W -f '${{Version}}\\n' spadesk; head -n 1 {SITE}", f"{OLDER}\n# as it was in {OLDER}\n"),
+    (f"tail -n 1 {SITE}.dpkg-old", "# our own line\n"),
     ("systemd-analyze verify /lib/systemd/system/spadesk*.service /lib/systemd/system/spadesk-copy.timer", ""),
     (f"{LATE}; {PASSWORDS}cut -d: -f1 letters/students", "anna.meyer@uni.example\nben.okafor@uni.example\nc.diaz@uni.example\n"),
     ("grep -c ^spadesk: /etc/passwd; stat -c '%A %U' /var/lib/spadesk", "1\ndrwx------ spadesk\n"),
@@ -116,7 +120,8 @@ BOOTED = [
 
 PROOF = """best size 1 profile 1 0 0 0 0 0 0 0 0 0 0 0
 Proved: no other way to give out the places is better.
-Your list: CHESS, LOOM. You have CHESS, your choice 1.
+Your list: CHESS, LOOM. You have CHESS, your choice 1. Between students with equal claims the lower number goes first. Yours, \
+ac7438e8…, is number 1 of 1 in this round. It is made of your code alone.
 """
 
 
@@ -130,6 +135,15 @@ def blocks(text):
             yield kind, [(re.sub("^> ", "", command, flags=re.M), told) for command, told in found]
 
 
+def older(package, path, room):
+    """A package of an earlier version, with another file of the web server."""
+    subprocess.run(["dpkg-deb", "-R", package, f"{room}/older"], check=True)
+    control, site = f"{room}/older/DEBIAN/control", f"{room}/older/etc/nginx/sites-available/spadesk"
+    written(re.sub(r"(?m)^Version: .*", f"Version: {OLDER}", read(control)), control)
+    written(f"# as it was in {OLDER}\n{read(site)}", site)
+    subprocess.run(["dpkg-deb", "-b", "--root-owner-group", f"{room}/older", path], check=True, stdout=subprocess.DEVNULL)
+
+
 class Machine:
     """A bare Debian in a second layer over a folder, booted by systemd, with a network of its own beside that of this machine."""
 
@@ -141,6 +155,7 @@ class Machine:
         subprocess.run(["mount", "-t", "overlay", "overlay", "-o", layers, self.at], check=True)
         shutil.copy("/etc/resolv.conf", f"{self.at}/etc/resolv.conf")
         shutil.copy(package, f"{self.at}/root")
+        older(package, f"{self.at}/root/OLD.deb", room)
         subprocess.run(["chroot", self.at, "/bin/sh", "-c", NEEDED], check=True, env=self.ENTERED)
         self.boot()
 
@@ -217,6 +232,8 @@ def ran(machine, kind, commands):
 def steps(machine):
     """The same of all blocks, of what is tried behind them, and of the page that checks, where there is a browser."""
     for number, block in enumerate(blocks(read("docs", "SERVING.md"))):
+        if "Dpkg::Options" in block[1][0][0] or "OLD.deb" in block[1][0][0]:
+            machine.run(f"echo '# our own line' >> {SITE}")
         yield from ran(machine, *block)
         if number == 0:
             yield from ran(machine, "console", INSTALLED)
