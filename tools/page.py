@@ -33,6 +33,7 @@ from firefox import Firefox
 from nginx import plain, started
 from office import TOP, copy, free_port, read, serving
 from people_pages import MUTANTS, People, numbered
+from posted_pages import POSTED_MUTANTS, Posted
 from school_sheets import SHEET_MUTANTS, Sheets
 from sheets import guided
 
@@ -47,7 +48,7 @@ FIRST, TERM = (
 OFFICE_MUTANTS = [
     ("first_round", "office.html", 'kind === "best" && /^C,/m', 'kind === "best" && /^/m', "no proof: ''"),
     ("first_round", "office.html", "file.slice(0, MAX_TEXT + 1)", "file.slice(0, 8)", "by the page, opened again"),
-    ("first_round", "office.html", 'if (String(rowsOfKind(proof, "M")) !==', 'if (false && String(rowsOfKind(proof, "M")) !==', "quotas that have changed"),
+    ("first_round", "office.html", 'const isIts = proof => String(', 'const isIts = proof => true || String(', "quotas that have changed"),
     ("first_round", "office.html", "read(`/reports/text/${number}`)", "read(`/reports/text/${number}`).then(() => \"\")", "its text"),
     ("term", "office.html", 'students("missing", number)', 'students("unplaced", number)', "who has no list"),
     ("first_round", "check.html", 'kind === "best" && !rowOf("C")', 'kind === "never" && !rowOf("C")', "by check.html: ''"),
@@ -303,7 +304,7 @@ class Browser:
         return [it["message"] for it in self.send("POST", "/se/log", {"type": "browser"}) if "Failed to load resource" not in it["message"]]
 
 
-class Trial(People, Sheets):
+class Trial(People, Sheets, Posted):
     REDIRECTED = REDIRECTED
     answer_to, asked, ordinal, sealed = map(staticmethod, (answer_to, asked, ordinal, sealed))
     KEEPER, PAGES = KEEPER, PAGES
@@ -502,15 +503,23 @@ class Trial(People, Sheets):
         self.check("by the page, opened again", it.text("#verdict").startswith(f"proof{number}.txt: checked here"))
         return name
 
-    def changed_since(self):
-        """Places that came after the closing of round 1: the page proves nothing until they are gone again."""
-        it = self.it
-        for more, words in ((1, "supervisors, projects or quotas have changed since it was closed"), (0, "checked here. It is the best")):
+    def changed_since(self, proof):
+        """Places that came after the closing of round 1: the page shows the proof that it kept. Without that it proves nothing until they are
+        gone again."""
+        it, best = self.it, "checked here. It is the best"
+        for more, kept, words in ((1, True, best), (1, False, "supervisors, projects or quotas have changed since it was closed"), (0, False, best)):
             asked("PUT", "/supervisors/TURING", KEEPER, json.dumps({"name": "Alan Turing", "quota": 6 + more}))
             members = {"name": "Breaking an old cipher", "supervisor": "TURING", "quota": 3 + more}
             asked("PUT", "/projects/CIPHER", KEEPER, json.dumps(members))
+            if not kept:
+                it.run("localStorage.clear()")
             it.go()
-            self.check("quotas that have changed" if more else "and changed back", it.text("#proofs").startswith(f"Round 1: {words}"))
+            name = "a proof that was kept" if kept else "quotas that have changed" if more else "and changed back"
+            self.check(name, it.text("#proofs").startswith(f"Round 1: {words}"))
+            self.check("of when it is", "this is the proof of then, which this browser has kept" in it.text("#proofs"), kept)
+            if kept:
+                it.press("#proof1")
+                self.check("the proof of then", self.saved("proof1.txt"), proof)
 
     def no_proofs(self, name):
         """What the page says of texts that are no proof: of a forger, or of a proof of which a line stands twice or half."""
@@ -633,7 +642,9 @@ class Trial(People, Sheets):
         self.check("loaded anew, the proof again", it.text("#proofs").startswith("Round 1: checked here. It is the best"))
         it.press("#proof1")
         self.check("the same", self.saved("proof1.txt"), open(name, "rb").read())
-        self.changed_since()
+        self.posted(1, name)
+        it.go()
+        self.changed_since(open(name, "rb").read())
         it.press("#drawing summary")
         self.check("the same picture", self.lines(), [14, 4, 2, 0, 45])
         it.press("#reopen")
@@ -1376,7 +1387,7 @@ def main(*words):
             web()
             parts = words[words.index("--only") + 1].split(",") if "--only" in words else PARTS
             if "--mutants" in words:
-                trial.mutants(sealed, web, [it for it in OFFICE_MUTANTS + SHEET_MUTANTS + MUTANTS if it[0] in parts])
+                trial.mutants(sealed, web, [it for it in OFFICE_MUTANTS + SHEET_MUTANTS + POSTED_MUTANTS + MUTANTS if it[0] in parts])
             else:
                 if "--in-firefox" not in words:
                     trial.all(parts)

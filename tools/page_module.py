@@ -28,7 +28,7 @@ import tempfile
 from office import TOP, read
 from page import sealed
 
-CRATE, EXPORTS, PAGES = "page_check", ("page_room", "page_check", "page_solve"), ("office.html", "check.html")
+CRATE, EXPORTS, PAGES = "page_check", ("page_room", "page_check", "page_solve", "page_publish", "page_own"), ("office.html", "check.html")
 # A module: its crate, what it gives, the pages that have it, the C files next to it, how clang optimizes it, and what it may call besides
 Module = collections.namedtuple("Module", "crate exports pages host level calls")
 SHUFFLE = "llvm.x86.ssse3.pshuf.b.128"  # the scan of a text for a byte

@@ -664,7 +664,7 @@ MUTANTS = [
     ("roles", "nginx.conf", "limit_req zone=own_tries", "# limit_req zone=own_tries", "tries of a password"),
     ("held", "nginx.conf", "|rounds|reports)\\b", "|rounds)\\b", "what a student reaches"),
     ("held", "student.html", 'isHeld ? await readIfThere("held.txt") :', 'isHeld ? "" :', "a student meanwhile"),
-    ("held", "office.html", '(await held()) === undefined ? "Students', '(await held()) !== 0 ? "Students', "the office is told"),
+    ("held", "office.html", "(await held()) === undefined ? service.shown", "(await held()) !== 0 ? service.shown", "the office is told"),
     ("phone", "student.html", 'isWide ? { open: "" } : {}', '{ open: "" }', "the list is on the first screen"),
     ("phone", "student.html", '.normalize("NFKD")', '.normalize("NFC")', "found without its accent"),
     ("phone", "student.html", "[...cards.values()].every(", "[...cards.values()].some(", "found without its accent"),
