@@ -12,7 +12,7 @@ POSTED_MUTANTS = [
     ("first_round", "office.html", "find(isIts)", "find(it => isIts(it) && it === solved)", "a proof that was kept"),
     ("first_round", "check.html", "list.indexOf(place) + 1;", "list.indexOf(place);", "the own part of S01"),
     ("first_round", "check.html", "more > 0 ?", "more >= 0 ?", "why it is the own place"),
-    ("first_round", "check.html", 'sum(price("Y", project), price("Z"', 'sum(price("Z", project), price("Z"', "what a choice costs"),
+    ("first_round", "check.html", 'sum(price("Y", project), price("Z"', 'sum(price("Z", project), price("Z"', "why it is the own place"),
     ("first_round", "check.html", '!(/^accepted/.test(line) && rowOf("R"))', "true", "an own part is asked for"),
 ]
 
