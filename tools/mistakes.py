@@ -35,8 +35,7 @@ GOAL = re.compile(r"^(?:\./)?proofs/(\S+)/\w+\.antt:\d+:\d+: error: `([^`]+)`", 
 
 
 def bare(name):
-    """A type or a trait without what it takes; of From what it is made from stays in its name."""
-    name = re.sub(r"\bFrom<(\w+).*", r"From\1", name)
+    """A type or a trait without what it takes."""
     while "<" in name:
         name = re.sub(r"<[^<>]*>", "", name)
     return name.split("::")[-1].split()[0] if name.split() else ""
@@ -46,7 +45,8 @@ def owner_of(head):
     """How the prover names the block of an `impl` or a `trait`: the type, and after it the trait."""
     head = re.sub(r"^<(?:[^<>]|<[^<>]*>)*>", "", head.replace("->", "")).split(" where ")[0].strip()
     trait, of, kind = head.partition(" for ")
-    return bare(kind) + bare(trait) if of else bare(head.split(":")[0])
+    named = re.sub(r"(\w+)<(\w+).*", r"\1\2", trait)  # as From<AllocError>, by what it takes
+    return bare(kind) + bare(named) if of else bare(head.split(":")[0])
 
 
 class Text:
