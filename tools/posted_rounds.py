@@ -30,7 +30,7 @@ class Told:
 
     def __init__(self, program):
         self.program, self.folder = program, tempfile.mkdtemp()
-        self.asked = []  # texts and lines, and what program and Python told: the page is asked at the end
+        self.asked, self.alike = [], 0  # texts and lines, and what program and Python told; how many the page told alike
 
     def line(self, words, text):
         ran = line(self.program, words, written(text, os.path.join(self.folder, "round.txt")))
@@ -46,7 +46,7 @@ class Told:
         return said
 
     def by_page(self):
-        """The page is asked all that was asked."""
+        """The page is asked all that was asked since it was asked last."""
         for call, most in (("page_check", 1), ("page_own", 2)):
             asked = [it for it in self.asked if len(it[0]) == most]
             words = ["node", f"{TOP}/tools/page_lines.mjs", f"{TOP}/page/check.html", call]
@@ -54,7 +54,8 @@ class Told:
             for (texts, said), other in zip(asked, told, strict=True):
                 if other.strip() != said:
                     sys.exit(f"posted_rounds.py: the program tells {said!r} and check.html {other!r} of {texts[1:]}\n{texts[0]}")
-        return len(self.asked)
+        self.alike += len(self.asked)
+        self.asked = []
 
 
 def rows(text, kind):
@@ -119,6 +120,7 @@ def main(program, tries="2000", seed="1"):
     students = rounds = 0
     for at in range(int(tries)):
         if at % 20 == 0:
+            told.by_page()
             size, maker = SIZES[at // 20 % 4], draw.choice(makers)
             instance = round_text(*maker(draw, size), draw.random() < 0.5)
             lists = {code: choices for code, *choices in rows(instance, "C")}
@@ -145,7 +147,8 @@ def main(program, tries="2000", seed="1"):
     print(f"{rounds} rounds, {students} students' parts of right results")
     for kind in KINDS:
         print(f"a {kind} that is false: " + ", ".join(f"{count} seen by {who}" for (it, who), count in sorted(seen.items()) if it == kind))
-    print(f"{told.by_page()} parts told alike by the program, check_round.py and check.html")
+    told.by_page()
+    print(f"{told.alike} parts told alike by the program, check_round.py and check.html")
 
 
 if __name__ == "__main__":
