@@ -1,6 +1,6 @@
--- The first line up to which lines begin no round text.
+-- The first line up to which lines begin no text of the kind.
 use Rattle.std.proofs.Common.{◌≡◌, ℕ, ◌+◌, ◌<◌, ◌≤◌, List, [], ◌∷◌, ◌++◌, length, map, take, drop, get_or, refl, sym, ap, ◌∙◌, subst, arith}
-use Rattle.intake.proofs.Common.{◌==◌, take_more, take_at, take_all, take-append-le, take-append-drop, length-append, get_or_at, get_or-map, Bor, length-slice_split, Parts, IsRoundParts, sections, round_lines, round_text, ended, pieces, BeginsLines, IsFirstBadLine, IsDraft, IsWhole}
+use Rattle.intake.proofs.Common.{◌==◌, take_more, take_at, take_all, take-append-le, take-append-drop, length-append, get_or_at, get_or-map, Bor, length-slice_split, Kind, Parts, ArePartsOf, sections, lines_of, text_of, ended, pieces, BeginsLines, IsFirstBadLine, IsDraft, IsWhole}
 use Rattle.intake.proofs.Ends.{draft_begins}
 use Rattle.intake.proofs.Goes.{parts_plain}
 use Rattle.intake.proofs.Pieces.{pieces_back, text_back}
@@ -11,43 +11,43 @@ use Rattle.intake.proofs.Takes.{whole_only}
 pub some_piece : (text : List ℕ) → 1 ≤ length (pieces text)
 some_piece text = omega (arith, length-slice_split (λ b. b == 10) text)
 
--- the pieces of a round text are its lines and an empty one
-pub round_pieces : (text : List ℕ) (p : Parts) → IsRoundParts p → text ≡ round_text p → pieces text ≡ round_lines p ++ [] ∷ []
-round_pieces text p v e = ap pieces e ∙ pieces_back (round_lines p) (lines_free 10 (sections p) refl (parts_plain 10 (omega arith) p v))
+-- the pieces of a text are its lines and an empty one
+pub text_pieces : (k : Kind) (text : List ℕ) (p : Parts) → ArePartsOf k p → text ≡ text_of k p → pieces text ≡ lines_of k p ++ [] ∷ []
+text_pieces k text p v e = ap pieces e ∙ pieces_back (lines_of k p) (lines_free 10 (sections k p) refl (parts_plain 10 (omega arith) k p v))
 
 -- the lines of parts, up to any of them, begin a text
-front_begins : (p : Parts) (n : ℕ) → IsRoundParts p → BeginsLines (take n (round_lines p))
-front_begins p n v = (p, drop n (round_lines p), v, sym (take-append-drop n (round_lines p)))
+front_begins : (k : Kind) (p : Parts) (n : ℕ) → ArePartsOf k p → BeginsLines k (take n (lines_of k p))
+front_begins k p n v = (p, drop n (lines_of k p), v, sym (take-append-drop n (lines_of k p)))
 
 -- a line that goes on nowhere is the first bad one
-pub bad_line : (text : List ℕ) (n : ℕ) (d : Parts) (l : List ℕ) → IsDraft d → round_lines d ≡ take n (pieces text) → n + 1 < length (pieces text) → get_or (pieces text) n [] ≡ l → ¬ BeginsLines (round_lines d ++ l ∷ []) → IsFirstBadLine text (n + 1)
-bad_line text n d l draft lines h at refused =
-    let all : take (n + 1) (pieces text) ≡ round_lines d ++ l ∷ [] = take_more (pieces text) n [] (omega arith) ∙ ap (λ (ls : List (List ℕ)). ls ++ get_or (pieces text) n [] ∷ []) (sym lines) ∙ ap (λ (x : List ℕ). round_lines d ++ x ∷ []) at in
+pub bad_line : (k : Kind) (text : List ℕ) (n : ℕ) (d : Parts) (l : List ℕ) → IsDraft k d → lines_of k d ≡ take n (pieces text) → n + 1 < length (pieces text) → get_or (pieces text) n [] ≡ l → ¬ BeginsLines k (lines_of k d ++ l ∷ []) → IsFirstBadLine k text (n + 1)
+bad_line k text n d l draft lines h at refused =
+    let all : take (n + 1) (pieces text) ≡ lines_of k d ++ l ∷ [] = take_more (pieces text) n [] (omega arith) ∙ ap (λ (ls : List (List ℕ)). ls ++ get_or (pieces text) n [] ∷ []) (sym lines) ∙ ap (λ (x : List ℕ). lines_of k d ++ x ∷ []) at in
     record {
       before = n;
       number = refl;
       there = omega arith;
-      good = subst BeginsLines lines (draft_begins d draft);
-      bad = λ m b. refused (subst BeginsLines all b);
+      good = subst (BeginsLines k) lines (draft_begins k d draft);
+      bad = λ m b. refused (subst (BeginsLines k) all b);
       refused = λ p v e.
-          let ps : pieces text ≡ round_lines p ++ [] ∷ [] = round_pieces text p v e in
-          let few : n + 1 ≤ length (round_lines p) = omega (arith, ap length ps, length-append (round_lines p) ([] ∷ [])) in
-          refused (subst BeginsLines (sym (ap (take (n + 1)) ps ∙ take-append-le (n + 1) (round_lines p) ([] ∷ []) few) ∙ all) (front_begins p (n + 1) v));
+          let ps : pieces text ≡ lines_of k p ++ [] ∷ [] = text_pieces k text p v e in
+          let few : n + 1 ≤ length (lines_of k p) = omega (arith, ap length ps, length-append (lines_of k p) ([] ∷ [])) in
+          refused (subst (BeginsLines k) (sym (ap (take (n + 1)) ps ∙ take-append-le (n + 1) (lines_of k p) ([] ∷ []) few) ∙ all) (front_begins k p (n + 1) v));
     }
 
 -- a last line without its end, or a text that ends too early
-pub bad_end : (text : List ℕ) (m n : ℕ) (d : Parts) → IsDraft d → round_lines d ≡ take n (pieces text) → length (pieces text) ≡ n + 1 → m ≡ n + 1 → (get_or (pieces text) n [] ≡ [] → ¬ IsWhole d) → IsFirstBadLine text m
-bad_end text m n d draft lines many number last = record {
+pub bad_end : (k : Kind) (text : List ℕ) (m n : ℕ) (d : Parts) → IsDraft k d → lines_of k d ≡ take n (pieces text) → length (pieces text) ≡ n + 1 → m ≡ n + 1 → (get_or (pieces text) n [] ≡ [] → ¬ IsWhole k d) → IsFirstBadLine k text m
+bad_end k text m n d draft lines many number last = record {
   before = n;
   number = number;
   there = omega arith;
-  good = subst BeginsLines lines (draft_begins d draft);
+  good = subst (BeginsLines k) lines (draft_begins k d draft);
   bad = λ h b. absurd (omega arith);
   refused = λ p v e.
-      let ps : pieces text ≡ round_lines p ++ [] ∷ [] = round_pieces text p v e in
-      let count : length (round_lines p) ≡ n = omega (arith, ap length ps, length-append (round_lines p) ([] ∷ [])) in
-      last (ap (λ (l : List (List ℕ)). get_or l n []) ps ∙ get_or_at (round_lines p) [] [] [] n count)
-      (whole_only d p draft v (sym (lines ∙ ap (take n) ps ∙ take_at (round_lines p) ([] ∷ []) n count)));
+      let ps : pieces text ≡ lines_of k p ++ [] ∷ [] = text_pieces k text p v e in
+      let count : length (lines_of k p) ≡ n = omega (arith, ap length ps, length-append (lines_of k p) ([] ∷ [])) in
+      last (ap (λ (l : List (List ℕ)). get_or l n []) ps ∙ get_or_at (lines_of k p) [] [] [] n count)
+      (whole_only k d p draft v (sym (lines ∙ ap (take n) ps ∙ take_at (lines_of k p) ([] ∷ []) n count)));
 }
 
 -- a text that may end at its end is that of its lines

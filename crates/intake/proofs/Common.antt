@@ -1,11 +1,14 @@
 -- The names that most proofs here cite, passed on from one place. Declares nothing.
-pub use Rattle.intake.specs.Inside.Entries.{AddsEntry, AddsLine, AddsOne, AddsPrice, ArePricedUpTo, At, ComesNext, Entry, IsNext, MayComeNext, NextAim, NextPair, NextPrice, NextPriceAt, NextProject, NextStudent, NextSupervisor, letter_of, line_of, prices_at, with_entry, with_price, with_prices}
-pub use Rattle.intake.specs.Inside.PartialRound.{AreComplete, ArePlaces, ArePricedInOrder, ArePricesUpTo, AreUnpriced, EndsPlaced, HasNoPrices, IsDraft, IsField, IsFree, IsWhole, NoneOrAll, draft_of}
-pub use Rattle.intake.specs.Lines.{Priced, Row, Section, aim_rows, choice_code, ended, instance_text, line, pair_rows, price_rows, price_section, priced, project_row, round_lines, round_text, section_lines, sections, student_row, supervisor_row}
-pub use Rattle.intake.specs.Parts.{ArePricesOrNone, IsPlace, IsPrice, IsRoll, IsRoundInstance, IsRoundParts, Parts, Rise, code_cmp}
-pub use Rattle.intake.specs.Reading.{BeginsLines, IsFirstBadLine, IsReadBack, IsReading, pieces}
+pub use Rattle.intake.specs.Inside.Entries.{AddsEntry, AddsLine, AddsOne, AddsPrice, ArePricedUpTo, At, ComesNext, Entry, HasNoPairs, HasNoProjects, HasNoStudents, InRound, IsNext, MayComeNext, NextAim, NextPair, NextPrice, NextPriceAt, NextProject, NextStudent, NextSupervisor, StandsAfter, letter_of, line_of, one_price, prices_at, with_entry, with_price, with_prices, zeros}
+pub use Rattle.intake.specs.Inside.PartialRound.{AreComplete, AreFirstPrices, ArePlaces, ArePricedInOrder, AreUnpriced, Ends, HasLine, HasNoPrices, IsBare, IsCompleted, IsDraft, IsDraftReading, IsField, IsFree, IsWhole, NoneOrAll, draft_of}
+pub use Rattle.intake.specs.Lines.{Priced, Row, Section, aim_rows, choice_code, ended, has_line, instance_text, is_zero_price, line, lines_of, pair_row, pair_rows, price_row, price_rows, price_section, priced, project_row, public_text, round_text, row_before, rows_where, section_lines, sections, student_letter, student_row, supervisor_row, text_of}
+pub use Rattle.intake.specs.Parts.{ArePartsOf, ArePricesOrNone, ArePricesUpTo, IsInstance, IsListOf, IsPlace, IsPrice, IsPublicText, IsRoll, IsRoundParts, Parts, Rise, code_cmp, least_listed, most_listed}
+pub use Rattle.intake.specs.Reading.{BeginsLines, IsFaultOf, IsFirstBadLine, IsReadBack, IsReading, pieces}
+pub use Rattle.intake.specs.Public.{IsPublicParts, IsPublicReading, posted_parts, public_read, told_list}
 pub use Rattle.intake.specs.View.{alone, parts_read, proved, written}
 pub use Rattle.intake.specs.declared.TheConstants.{MAX_BYTES}
+pub use Rattle.intake.specs.declared.section.Kind.{Kind}
+pub use Rattle.intake.specs.declared.section.Kind.TheVariants.{Round, Public}
 pub use Rattle.intake.specs.declared.section.SectionName.{SectionName}
 pub use Rattle.intake.specs.declared.section.SectionName.TheVariants.{Aims, Pairs, ProjectPrices, Projects, StudentPrices, Students, SupervisorPrices, Supervisors}
 pub use Rattle.spa.proofs.Texts.{code_bytes, code_utf8}

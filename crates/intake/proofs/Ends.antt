@@ -1,6 +1,6 @@
 -- A draft may be completed, and a complete one is the parts of its text.
-use Rattle.std.proofs.Common.{◌≡◌, ℕ, zero, suc, ◌+◌, ◌-◌, ◌<◌, ◌≤◌, ℤ, List, [], ◌∷◌, ◌++◌, length, map, flat_map, get_or, replicate, codes, Option, Some, None, All, Contains, slice_get, refl, sym, ap, ◌∙◌, subst, arith}
-use Rattle.intake.proofs.Common.{AllZip, length-map, All-map, Aim, Instance, Supervisor, Project, Student, supervisor_codes, project_codes, student_codes, IsFirstRepeated, IsSoundList, IsFirstUnknown, IsListFault, IsFirstListFault, IsFirstInstanceFault, Parts, Rise, IsPlace, ArePricesOrNone, IsRoundParts, Row, choice_code, line, round_lines, section_lines, priced, price_section, pair_rows, aim_rows, supervisor_row, project_row, student_row, BeginsLines, IsDraft, IsWhole, ArePlaces, ArePricesUpTo, NoneOrAll, AreComplete, ArePricedUpTo, with_prices}
+use Rattle.std.proofs.Common.{◌≡◌, ℕ, zero, suc, ◌+◌, ◌-◌, ◌<◌, ℤ, List, [], ◌∷◌, ◌++◌, length, map, flat_map, get_or, replicate, codes, Option, Some, None, All, Contains, slice_get, refl, sym, ap, ◌∙◌, subst, arith, append-nil}
+use Rattle.intake.proofs.Common.{AllZip, length-map, All-map, Aim, Instance, Kind, Round, Public, Supervisor, Project, Student, supervisor_codes, project_codes, student_codes, IsFirstRepeated, IsListOf, IsFirstUnknown, IsListFault, IsFirstListFault, IsFirstInstanceFault, Parts, Rise, IsPlace, ArePricesOrNone, ArePricesUpTo, IsPublicText, IsRoundParts, Row, line, lines_of, section_lines, priced, price_section, pair_row, aim_rows, supervisor_row, project_row, student_row, BeginsLines, IsDraft, IsWhole, ArePlaces, NoneOrAll, AreComplete, ArePricedUpTo, with_prices}
 use Rattle.spa.specs.declared.fault.Roll.TheVariants.{Supervisors, Projects, Students}
 use Rattle.spa.specs.declared.fault.InstanceFault.{InstanceFault}
 use Rattle.spa.specs.declared.fault.InstanceFault.TheVariants.{Memory, Limit, RepeatedCode, UnknownSupervisor, ListLength, UnknownProject, RepeatedProject}
@@ -10,24 +10,8 @@ use Rattle.intake.proofs.Prices.{filled, filled_all, filled_prices, filled_rows,
 use Rattle.intake.proofs.Rolls.{within_get}
 use Rattle.intake.proofs.Sections.{letter_at}
 use Rattle.intake.proofs.Steps.{prices_step}
-
--- nobody of the rest has a place
-pub no_more_pairs : (es : List Student) (ks : List (Option ℕ)) (n : ℕ) → pair_rows es (ks ++ replicate n None) ≡ pair_rows es ks
-no_more_pairs [] ks n = refl
-no_more_pairs (e ∷ es) [] zero = refl
-no_more_pairs (e ∷ es) [] (suc n) = no_more_pairs es [] n ∙ none es
-  where
-    none : (es : List Student) → pair_rows es [] ≡ []
-    none [] = refl
-    none (x ∷ es) = refl
-no_more_pairs (e ∷ es) (None ∷ ks) n = no_more_pairs es ks n
-no_more_pairs (e ∷ es) (Some k ∷ ks) n = ap (λ (l : List Row). (e.code ∷ choice_code e.list k ∷ []) ∷ l) (no_more_pairs es ks n)
-
--- there are no more places than students
-pub places_few : (es : List Student) (ks : List (Option ℕ)) → ArePlaces es ks → length ks ≤ length es
-places_few es [] h = omega arith
-places_few [] (k ∷ ks) h = absurd h
-places_few (e ∷ es) (k ∷ ks) h = let r = places_few es ks h.1 in omega (arith, r)
+use Rattle.intake.proofs.Takes.{places_few}
+use Rattle.intake.proofs.Where.{blank_after}
 
 -- with none for the rest there is a place or none for each
 places_all : (es : List Student) (ks : List (Option ℕ)) (n : ℕ) → length es ≡ length ks + n → ArePlaces es ks → AllZip IsPlace es (ks ++ replicate n None)
@@ -43,21 +27,32 @@ abbrev pub placed : Parts → Parts
 placed p = record p { places = p.places ++ replicate (length p.instance.students - length p.places) None }
 
 -- they have the same lines
-pub placed_lines : (p : Parts) → round_lines (placed p) ≡ round_lines p
-placed_lines p = ap (λ (l : List Row). map (line (codes "A")) (aim_rows p.aim) ++ (map (line (codes "S")) (map supervisor_row p.instance.supervisors) ++ (map (line (codes "P")) (map project_row p.instance.projects) ++ (map (line (codes "C")) (map student_row p.instance.students) ++ (map (line (codes "M")) l ++ flat_map section_lines (map price_section (priced p))))))) (no_more_pairs p.instance.students p.places (length p.instance.students - length p.places))
+pub placed_lines : (p : Parts) → lines_of Round (placed p) ≡ lines_of Round p
+placed_lines p = ap (λ (l : List Row). map (line (codes "A")) (aim_rows p.aim) ++ (map (line (codes "S")) (map supervisor_row p.instance.supervisors) ++ (map (line (codes "P")) (map project_row p.instance.projects) ++ (map (line (codes "C")) (map student_row p.instance.students) ++ (map (line (codes "M")) l ++ flat_map section_lines (map (price_section Round) (priced p)))))))
+    (blank_after pair_row None (λ e. refl) p.instance.students p.places (length p.instance.students - length p.places))
 
 -- prices of a roll by its entries
 by_entries : {X : Type 0} (key : X → List ℕ) (es : List X) (vs : List (List ℤ)) → ArePricesUpTo (length (map key es)) vs → NoneOrAll (length (map key es)) vs → ArePricesOrNone (length es) vs
 by_entries key es vs a w = subst (λ (n : ℕ). ArePricesOrNone n vs) (length-map es key) (record { none_or_all = w; prices = a.prices })
 
 -- a draft that may end is the parts of its text
-pub whole_parts : (p : Parts) → IsDraft p → IsWhole p → IsRoundParts (placed p)
+pub whole_parts : (p : Parts) → IsDraft Round p → IsWhole Round p → IsRoundParts (placed p)
 whole_parts p d w = record {
   instance = d.instance;
   places = places_all p.instance.students p.places (length p.instance.students - length p.places) (omega (arith, places_few p.instance.students p.places d.places)) d.places;
-  student_prices = by_entries (λ (e : Student). e.code) p.instance.students p.student_prices d.prices.0 w.0;
-  project_prices = by_entries (λ (e : Project). e.code) p.instance.projects p.project_prices d.prices.2.0 w.1.0;
-  supervisor_prices = by_entries (λ (e : Supervisor). e.code) p.instance.supervisors p.supervisor_prices d.prices.2.2.0 w.1.1.0;
+  student_prices = by_entries (λ (e : Student). e.code) p.instance.students p.student_prices d.prices.0.prices w.0;
+  project_prices = by_entries (λ (e : Project). e.code) p.instance.projects p.project_prices d.prices.2.0.prices w.1.0;
+  supervisor_prices = by_entries (λ (e : Supervisor). e.code) p.instance.supervisors p.supervisor_prices d.prices.2.2.0.prices w.1.1.0;
+}
+
+-- a draft of a result is the parts of its text
+pub public_draft : (p : Parts) → IsDraft Public p → IsPublicText p
+public_draft p d = record {
+  instance = d.instance;
+  places = d.bare.0;
+  student_prices = d.bare.1;
+  project_prices = subst (λ (n : ℕ). ArePricesUpTo n p.project_prices) (length-map p.instance.projects (λ (e : Project). e.code)) d.prices.2.0.prices;
+  supervisor_prices = subst (λ (n : ℕ). ArePricesUpTo n p.supervisor_prices) (length-map p.instance.supervisors (λ (e : Supervisor). e.code)) d.prices.2.2.0.prices;
 }
 
 -- codes that rise are distinct
@@ -77,24 +72,25 @@ not_unknown : (known names : List (List ℕ)) (n : ℕ) → All (λ c. Contains 
 not_unknown known names n all u = u.unknown (all_found (λ c. Contains known c) names n u.code all u.here)
 
 -- the lists of a draft have no fault but out of memory
-list_fault : (p : Parts) (fault : InstanceFault) → IsDraft p → IsFirstListFault (project_codes p.instance) (map (λ e. e.list) p.instance.students) fault → fault ≡ Memory
+list_fault : (p : Parts) (fault : InstanceFault) → IsDraft Round p → IsFirstListFault (project_codes p.instance) (map (λ e. e.list) p.instance.students) fault → fault ≡ Memory
 list_fault p fault d f =
-    let sound : IsSoundList (project_codes p.instance) f.list = all_found (IsSoundList (project_codes p.instance)) (map (λ e. e.list) p.instance.students) f.student f.list (All-map (IsSoundList (project_codes p.instance)) (λ e. e.list) p.instance.students d.instance.listed) f.here in
+    let sound : IsListOf Round (project_codes p.instance) f.list = all_found (IsListOf Round (project_codes p.instance)) (map (λ e. e.list) p.instance.students) f.student f.list
+    (All-map (IsListOf Round (project_codes p.instance)) (λ e. e.list) p.instance.students d.instance.listed) f.here in
     go fault f.student f.list f.is_fault sound
   where
-    go : (fault : InstanceFault) (s : ℕ) (list : List (List ℕ)) → IsListFault (project_codes p.instance) list s fault → IsSoundList (project_codes p.instance) list → fault ≡ Memory
+    go : (fault : InstanceFault) (s : ℕ) (list : List (List ℕ)) → IsListFault (project_codes p.instance) list s fault → IsListOf Round (project_codes p.instance) list → fault ≡ Memory
     go Memory s list h sound = refl
     go Limit s list h sound = absurd h
     go (RepeatedCode roll n) s list h sound = absurd h
     go (UnknownSupervisor n) s list h sound = absurd h
-    go (ListLength n) s list h sound = absurd (h.1 sound.0)
+    go (ListLength n) s list h sound = (let few = sound.0 in absurd (h.1 (omega arith, few.1)))
     go (UnknownProject n zero) s list h sound = absurd h
     go (UnknownProject n (suc k)) s list h sound = absurd (h.3.unknown (sound.1.known k h.3.code (within_get list k h.3.code h.3.here) h.3.here))
     go (RepeatedProject n zero) s list h sound = absurd h
     go (RepeatedProject n (suc k)) s list h sound = absurd (sound.1.apart h.3.earlier k h.3.is_before h.3.known h.3.same)
 
 -- the rolls of a draft have no fault but out of memory
-pub no_fault : (p : Parts) (fault : InstanceFault) → IsDraft p → IsFirstInstanceFault p.instance fault → fault ≡ Memory
+pub no_fault : (p : Parts) (fault : InstanceFault) → IsDraft Round p → IsFirstInstanceFault p.instance fault → fault ≡ Memory
 no_fault p Memory d h = refl
 no_fault p Limit d h = absurd (h d.instance.within)
 no_fault p (RepeatedCode Supervisors n) d h = absurd (not_repeated (supervisor_codes p.instance) n d.instance.supervisors.rise h.1)
@@ -113,16 +109,17 @@ same_parts aim i j ks ls u y z e f =
     ∙ ap (λ (ks : List (Option ℕ)). let p : Parts = record { aim = aim; instance = j; places = ks; student_prices = u; project_prices = y; supervisor_prices = z } in p) f
 
 -- the prices that are read are completed
-begins_at : (n : ℕ) (p : Parts) → IsDraft p → ArePricedUpTo n (priced p) → BeginsLines (round_lines p)
+begins_at : (n : ℕ) (p : Parts) → IsDraft Round p → ArePricedUpTo Round n (priced p) → BeginsLines Round (lines_of Round p)
 begins_at n p d t =
     let vs : List (List ℤ) = filled n (priced p) in
     let more = filled_rows n (priced p) d.prices t in
-    let step = prices_step n vs p more.0 d t (filled_prices n (priced p) d.prices t) more.1 in
-    let whole : IsWhole (with_prices n vs p) = subst AreComplete (sym (priced_changed n vs p t)) (changed_complete n vs (priced p) t (filled_all n (priced p) d.prices t)) in
-    (placed (with_prices n vs p), map (line (letter_at n (map price_section (priced p)))) more.0, whole_parts (with_prices n vs p) step.0 whole, placed_lines (with_prices n vs p) ∙ step.1)
+    let step = prices_step Round n vs p more.0 d tt t (filled_prices n (priced p) d.prices t) more.1 in
+    let whole : IsWhole Round (with_prices n vs p) = subst (AreComplete Round) (sym (priced_changed Round n vs p t)) (changed_complete Round n vs (priced p) t (filled_all n (priced p) d.prices t)) in
+    (placed (with_prices n vs p), map (line (letter_at n (map (price_section Round) (priced p)))) more.0, whole_parts (with_prices n vs p) step.0 whole, placed_lines (with_prices n vs p) ∙ step.1)
 
 -- the lines of a draft begin a text
-pub draft_begins : (p : Parts) → IsDraft p → BeginsLines (round_lines p)
-draft_begins p d =
+pub draft_begins : (k : Kind) (p : Parts) → IsDraft k p → BeginsLines k (lines_of k p)
+draft_begins Public p d = (p, [], public_draft p d, sym (append-nil (lines_of Public p)))
+draft_begins Round p d =
     let t = some_turn (record { letter = codes "U"; codes = student_codes p.instance; prices = p.student_prices }) (record { letter = codes "Y"; codes = project_codes p.instance; prices = p.project_prices } ∷ record { letter = codes "Z"; codes = supervisor_codes p.instance; prices = p.supervisor_prices } ∷ []) d.prices in
     begins_at t.0 p d t.1

@@ -1,6 +1,6 @@
 -- A list of projects, read field by field.
 use Rattle.std.proofs.Common.{◌≡◌, ◌≢◌, ℕ, zero, suc, ◌+◌, ◌<◌, Bool, true, false, not, List, [], ◌∷◌, ◌++◌, length, map, get_or, take, slice_get, Option, Some, None, refl, sym, ap, ◌∙◌, arith}
-use Rattle.intake.proofs.Common.{Bor, take_more, length-take-le, length-map, map-append, bytes_eq, not_from_Decides, bytes_eq-Decides, Finds, IsSoundUpTo, IsSoundList, Rise}
+use Rattle.intake.proofs.Common.{Bor, take_more, length-take-le, length-map, map-append, bytes_eq, not_from_Decides, bytes_eq-Decides, Finds, IsSoundUpTo, IsListOf, Kind, Rise}
 use Rattle.intake.proofs.Order.{get_found}
 use Rattle.intake.proofs.PairLine.{one_place}
 use Rattle.intake.proofs.Rolls.{known_more, apart_more, contained, standing}
@@ -16,8 +16,8 @@ field_at (f ∷ fs) zero h = (omega arith, refl)
 field_at (f ∷ fs) (suc k) h = (let at = field_at fs k (omega arith) in (omega (arith, at.0), at.1))
 
 -- a list with an unknown code is not sound
-pub unknown_code : (codes list : List (List ℕ)) (n k : ℕ) (code : List ℕ) → n ≡ length codes → IsSoundList codes list → k < length list → slice_get list k ≡ Some code → Finds codes n code None → ⊥
-unknown_code codes list n k code e sound h here none =
+pub unknown_code : (kind : Kind) (codes list : List (List ℕ)) (n k : ℕ) (code : List ℕ) → n ≡ length codes → IsListOf kind codes list → k < length list → slice_get list k ≡ Some code → Finds codes n code None → ⊥
+unknown_code kind codes list n k code e sound h here none =
     let at = standing codes code (sound.1.known k code h here) in
     none at.0 (omega (arith, at.1)) at.2
 
@@ -29,8 +29,8 @@ taken (x ∷ list) (suc k) zero h = refl
 taken (x ∷ list) (suc k) (suc p) h = taken list k p (omega arith)
 
 -- a list with a code twice is not sound
-pub repeated_code : (codes list seen : List (List ℕ)) (k p : ℕ) (code : List ℕ) → IsSoundList codes list → k < length list → slice_get list k ≡ Some code → seen ≡ take k list → Finds seen (length seen) code (Some p) → ⊥
-repeated_code codes list seen k p code sound h here e found =
+pub repeated_code : (kind : Kind) (codes list seen : List (List ℕ)) (k p : ℕ) (code : List ℕ) → IsListOf kind codes list → k < length list → slice_get list k ≡ Some code → seen ≡ take k list → Finds seen (length seen) code (Some p) → ⊥
+repeated_code kind codes list seen k p code sound h here e found =
     let few : length seen ≡ k = ap length e ∙ length-take-le k list (omega arith) in
     let less : p < k = omega (arith, found.0) in
     sound.1.apart p k less h (sym (taken list k p less) ∙ ap (λ (l : List (List ℕ)). slice_get l p) (sym e) ∙ found.1 ∙ sym here)

@@ -1,6 +1,6 @@
 -- What a pair's line refers to.
-use Rattle.std.proofs.Common.{◌≡◌, ℕ, zero, suc, ◌-◌, ◌<◌, List, [], ◌∷◌, length, map, get_or, slice_get, Some, None, Vec, Global, All, sym, ap, ◌∙◌, subst, inl, inr, arith}
-use Rattle.intake.proofs.Common.{cases_order, RANKS, IsPlaceOf, Code, Finds, Student, students_of, student_codes, project_codes, IsSoundList, Parts, Rise, choice_code, IsDraft, NextPair}
+use Rattle.std.proofs.Common.{◌≡◌, ℕ, zero, suc, ◌-◌, ◌<◌, ◌≤◌, List, [], ◌∷◌, length, map, get_or, slice_get, Some, None, Vec, Global, All, sym, ap, ◌∙◌, subst, inl, inr, arith}
+use Rattle.intake.proofs.Common.{cases_order, RANKS, IsPlaceOf, Code, Finds, Student, students_of, student_codes, Parts, Rise, choice_code, NextPair}
 use Rattle.intake.proofs.Found.{slice_get_at}
 use Rattle.intake.proofs.Order.{get_found, cmp_apart}
 use Rattle.intake.proofs.Rolls.{within_get}
@@ -43,8 +43,8 @@ pub record Refers (p : Parts) (s k : ℕ) (a b : List ℕ) (e : Student) : Type 
   pub place : slice_get e.list (k - 1) ≡ Some b
 
 -- a pair that may be added refers to what is known
-pub refers : (p : Parts) (row : List (List ℕ)) (s k : ℕ) (a b : List ℕ) → IsDraft p → (t : NextPair p row s k) → row ≡ a ∷ b ∷ [] → Refers p s k a b t.student
-refers p row s k a b d t e =
+pub refers : (p : Parts) (row : List (List ℕ)) (s k : ℕ) (a b : List ℕ) → (t : NextPair p row s k) → row ≡ a ∷ b ∷ [] → Refers p s k a b t.student
+refers p row s k a b t e =
     let rows : t.student.code ∷ choice_code t.student.list k ∷ [] ≡ a ∷ b ∷ [] = sym t.is ∙ e in
     let first : t.student.code ≡ a = cc in
     let second : choice_code t.student.list k ≡ b = cc in
@@ -71,11 +71,12 @@ listed_at es n m e st h r same found =
     ap (λ (s : Student). s.list) (sym s)
 
 -- a position in the list of a student is small
-pub small_place : {n m : ℕ} (p : Parts) (es : List (List ℕ × Vec Code Global)) (s k : ℕ) (e : List ℕ × Vec Code Global) → IsDraft p → p.instance.students ≡ students_of (map (λ e. (e.0, e.1.items)) es) → s < n → n ≡ length es → e ≡ get_or es s e → k < m → m ≡ length e.1.items → k < RANKS
-small_place p es s k e d students h many at l long =
-    let here : slice_get p.instance.students s ≡ Some (record { code = e.0; list = e.1.items }) = ap (λ (l : List Student). slice_get l s) students ∙ student_at es s e (omega arith) at in
-    let sound : IsSoundList (project_codes p.instance) e.1.items = all_found (λ (x : Student). IsSoundList (project_codes p.instance) x.list) p.instance.students s _ d.instance.listed here in
-    omega (arith, sound.0.1)
+pub small_place : {n m : ℕ} (students : List Student) (es : List (List ℕ × Vec Code Global)) (s k : ℕ) (e : List ℕ × Vec Code Global) → All (λ e. length e.list ≤ RANKS) students → students ≡ students_of (map (λ e. (e.0, e.1.items)) es)
+    → s < n → n ≡ length es → e ≡ get_or es s e → k < m → m ≡ length e.1.items → k < RANKS
+small_place students es s k e few same h many at l long =
+    let here : slice_get students s ≡ Some (record { code = e.0; list = e.1.items }) = ap (λ (l : List Student). slice_get l s) same ∙ student_at es s e (omega arith) at in
+    let short : length e.1.items ≤ RANKS = all_found (λ (x : Student). length x.list ≤ RANKS) students s _ few here in
+    omega arith
 
 -- what is found at a position is one
 pub same_found : (codes : List (List ℕ)) (n : ℕ) (a b : List ℕ) → slice_get codes n ≡ Some a → slice_get codes n ≡ Some b → a ≡ b

@@ -1,6 +1,6 @@
 -- Rolls of entries with codes, as the code keeps them and by codes.
 use Rattle.std.proofs.Common.{◌≡◌, ℕ, zero, suc, ◌+◌, ◌<◌, List, [], ◌∷◌, length, map, slice_get, Some, None, Vec, Global, Contains, refl, sym, ap, ◌∙◌, subst, inl, inr, arith, below_more}
-use Rattle.intake.proofs.Common.{cases_lt, Code, supervisors_of, projects_of, students_of, AreApart, Finds, AreKnown, IsSoundList, ComesNext}
+use Rattle.intake.proofs.Common.{cases_lt, Code, supervisors_of, projects_of, students_of, AreApart, Finds, AreKnown, IsListOf, Kind, ComesNext}
 use Rattle.intake.proofs.Found.{slice_get_at}
 use Rattle.intake.proofs.Order.{get_found}
 
@@ -57,5 +57,5 @@ student_count [] = refl
 student_count (e ∷ es) = ap suc (student_count es)
 
 -- a sound list, said of the same codes
-pub sound_moved : (a b x y : List (List ℕ)) → a ≡ b → x ≡ y → IsSoundList a x → IsSoundList b y
-sound_moved a b x y e f sound = subst (λ (l : List (List ℕ)). IsSoundList l y) e (subst (λ (l : List (List ℕ)). IsSoundList a l) f sound)
+pub sound_moved : (k : Kind) (a b x y : List (List ℕ)) → a ≡ b → x ≡ y → IsListOf k a x → IsListOf k b y
+sound_moved k a b x y e f sound = subst (λ (l : List (List ℕ)). IsListOf k l y) e (subst (λ (l : List (List ℕ)). IsListOf k a l) f sound)

@@ -1,6 +1,6 @@
 -- What a row adds to a draft.
 use Rattle.std.proofs.Common.{◌≡◌, ℕ, ◌<◌, ◌≤◌, ℤ, Bool, List, [], ◌∷◌, ◌++◌, length, map, get_or, Option, refl, ap, ◌∙◌, subst, arith}
-use Rattle.intake.proofs.Common.{Bor, map_push, Aim, Instance, Supervisor, Project, Student, given, supervisors_of, projects_of, students_of, Parts, Supervisors, Projects, Students, AddsPrice, with_entry}
+use Rattle.intake.proofs.Common.{Bor, map_push, Aim, Kind, Instance, Supervisor, Project, Student, given, supervisors_of, projects_of, students_of, Parts, Supervisors, Projects, Students, AddsPrice, with_entry}
 use Rattle.intake.proofs.Lists.{blank}
 
 -- one field
@@ -50,5 +50,5 @@ student_added aim ss ps ts new ks u y z code list e =
     ap (λ (l : List (List ℕ × List (List ℕ))). parts aim ss ps l ks u y z) e ∙ ap f (map_push (λ (e : List ℕ × List (List ℕ)). let s : Student = record { code = e.0; list = e.1 } in s) ts (code, list))
 
 -- a price that was added, said of the same codes
-pub price_moved : (a b : List (List ℕ)) (old : List (List ℤ)) (row : List (List ℕ)) (new : List (List ℤ)) (r : Bool) → a ≡ b → AddsPrice a old row new r → AddsPrice b old row new r
-price_moved a b old row new r e h = subst (λ (l : List (List ℕ)). AddsPrice l old row new r) e h
+pub price_moved : (k : Kind) (a b : List (List ℕ)) (old : List (List ℤ)) (row : List (List ℕ)) (new : List (List ℤ)) (r : Bool) → a ≡ b → AddsPrice k a old row new r → AddsPrice k b old row new r
+price_moved k a b old row new r e h = subst (λ (l : List (List ℕ)). AddsPrice k l old row new r) e h

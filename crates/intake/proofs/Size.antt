@@ -1,8 +1,9 @@
 -- The text of parts is not too large.
-use Rattle.std.proofs.Common.{◌≡◌, ℕ, ◌+◌, ◌*◌, ◌≤◌, ◌&&◌, ℤ, pos, negsuc, true, not, List, [], ◌∷◌, ◌++◌, length, map, flat_map, decimal, Option, Some, None, All, refl, ap, arith, length-append}
-use Rattle.intake.proofs.Common.{signed_decimal, list_all, ◌==◌, nat_le, slice_index, first_so, second_so, nat_tests, ints, length-decimal-le, length_signed_le, flat_map-append, length-map, All-head, All-tail, Aim, Greedy, Generous, MAX_QUOTA, is_code, is_code_byte, Supervisor, Project, Student, supervisor_codes, project_codes, student_codes, InRange, MAX_BYTES, Parts, IsRoundParts, Row, Section, line, ended, sections, section_lines, aim_rows, supervisor_row, project_row, student_row, pair_rows, price_rows, round_text}
+use Rattle.std.proofs.Common.{◌≡◌, ℕ, ◌+◌, ◌*◌, ◌≤◌, ◌&&◌, ℤ, pos, negsuc, true, not, List, [], ◌∷◌, ◌++◌, length, map, flat_map, decimal, All, refl, ap, arith, length-append}
+use Rattle.intake.proofs.Common.{signed_decimal, list_all, ◌==◌, nat_le, slice_index, first_so, second_so, nat_tests, ints, length-decimal-le, length_signed_le, flat_map-append, length-map, All-head, All-tail, Aim, Greedy, Generous, MAX_QUOTA, is_code, is_code_byte, Supervisor, Project, Student, supervisor_codes, project_codes, student_codes, InRange, MAX_BYTES, Parts, IsRoundParts, Round, Row, Section, line, ended, sections, section_lines, aim_rows, supervisor_row, project_row, student_row, pair_row, price_row, round_text}
 use Rattle.std.proofs.Math.Nat.{mul-suc}
 use Rattle.intake.proofs.Widths.{Said, OfRows, OfLetters, widths, rows_said}
+use Rattle.intake.proofs.Where.{rows_few}
 use Rattle.intake.proofs.Numbers.{small}
 
 -- the bytes of fields, with the comma before each
@@ -79,33 +80,20 @@ aim_few : (aim : Aim) → length (aim_rows aim) ≤ 1
 aim_few Greedy = omega arith
 aim_few Generous = omega arith
 
--- there are no more pairs than students
-pairs_few : (es : List Student) (ks : List (Option ℕ)) → length (pair_rows es ks) ≤ length es
-pairs_few [] ks = omega arith
-pairs_few (e ∷ es) [] = omega arith
-pairs_few (e ∷ es) (None ∷ ks) = (let r = pairs_few es ks in omega (arith, r))
-pairs_few (e ∷ es) (Some k ∷ ks) = (let r = pairs_few es ks in omega (arith, r))
-
--- and no more rows of prices than codes
-prices_few : (cs : List (List ℕ)) (vs : List (List ℤ)) → length (price_rows cs vs) ≤ length cs
-prices_few [] vs = omega arith
-prices_few (c ∷ cs) [] = omega arith
-prices_few (c ∷ cs) (v ∷ vs) = (let r = prices_few cs vs in omega (arith, r))
-
 -- the text of parts has no more than the largest number of bytes
 pub text_small : (p : Parts) → IsRoundParts p → length (round_text p) ≤ MAX_BYTES
 text_small p v =
     let i = p.instance in
     let w = v.instance.within in
-    let rows = rows_said (λ w x. length x ≤ w) (λ k r. size r ≤ k) short_said p v.instance v.student_prices.prices v.project_prices.prices v.supervisor_prices.prices in
-    let all = sections_size widths (sections p) (refl, (refl, (refl, (refl, (refl, (refl, (refl, (refl, tt)))))))) rows in
+    let rows = rows_said (λ w x. length x ≤ w) (λ k r. size r ≤ k) short_said Round p v.instance v.student_prices.prices v.project_prices.prices v.supervisor_prices.prices in
+    let all = sections_size widths (sections Round p) (refl, (refl, (refl, (refl, (refl, (refl, (refl, (refl, tt)))))))) rows in
     let supervisors = length-map i.supervisors supervisor_row in
     let projects = length-map i.projects project_row in
     let students = length-map i.students student_row in
-    let pairs = pairs_few i.students p.places in
-    let u = prices_few (student_codes i) p.student_prices in
-    let y = prices_few (project_codes i) p.project_prices in
-    let z = prices_few (supervisor_codes i) p.supervisor_prices in
+    let pairs = rows_few pair_row i.students p.places in
+    let u = rows_few (price_row Round) (student_codes i) p.student_prices in
+    let y = rows_few (price_row Round) (project_codes i) p.project_prices in
+    let z = rows_few (price_row Round) (supervisor_codes i) p.supervisor_prices in
     let us = length-map i.students (λ (e : Student). e.code) in
     let ys = length-map i.projects (λ (e : Project). e.code) in
     let zs = length-map i.supervisors (λ (e : Supervisor). e.code) in

@@ -1,16 +1,17 @@
 -- The text of parts determines them.
-use Rattle.std.proofs.Common.{◌≡◌, ℕ, suc, ◌-◌, ◌<◌, ◌≤◌, inl, inr, ℤ, pos, List, [], ◌∷◌, length, map, get_or, slice_get, Option, Some, None, All, Result, Ok, Err, decimal, refl, sym, ap, ◌∙◌, subst, arith}
-use Rattle.intake.proofs.Common.{signed_decimal, AllZip, cases_order, decimal_injective, signed_decimal_injective, append_cancel_right, length-map, All-head, All-tail, IsPlaceOf, Aim, Greedy, Generous, MAX_QUOTA, code_at, AreApart, Supervisor, Project, Student, project_codes, IsSoundList, InRange, Parts, Rise, IsPlace, IsPrice, ArePricesOrNone, IsRoundParts, Row, choice_code, sections, round_lines, round_text, aim_rows, supervisor_row, project_row, pair_rows, price_rows, IsReading, IsReadBack, parts_read}
+use Rattle.std.proofs.Common.{◌≡◌, ℕ, suc, ◌-◌, ◌<◌, ◌≤◌, inl, inr, ℤ, pos, List, [], ◌∷◌, length, map, get_or, slice_get, Option, Some, None, IsSome, All, Result, Ok, Err, decimal, refl, sym, ap, ◌∙◌, subst, arith}
+use Rattle.intake.proofs.Common.{signed_decimal, AllZip, cases_order, decimal_injective, signed_decimal_injective, append_cancel_right, length-map, All-head, All-tail, IsPlaceOf, Aim, Greedy, Generous, MAX_QUOTA, code_at, AreApart, Supervisor, Project, Student, project_codes, IsListOf, InRange, Parts, Rise, IsPlace, IsPrice, ArePricesOrNone, IsRoundParts, Round, Row, choice_code, sections, lines_of, round_text, aim_rows, supervisor_row, project_row, pair_row, pair_rows, price_rows, IsReading, IsReadBack, parts_read}
 use Rattle.intake.specs.declared.round.RoundParts.{RoundParts}
 use Rattle.intake.specs.declared.round.RoundFault.{RoundFault}
 use Rattle.intake.specs.declared.round.RoundFault.TheVariants.{Memory, TooLarge, Line}
 use Rattle.intake.proofs.Size.{text_small}
-use Rattle.intake.proofs.Bad.{round_pieces}
+use Rattle.intake.proofs.Bad.{text_pieces}
 use Rattle.intake.proofs.Found.{slice_get_at}
 use Rattle.intake.proofs.Goes.{parts_plain}
 use Rattle.intake.proofs.Numbers.{small}
 use Rattle.intake.proofs.Sections.{fields_of, sections_back, SameRows, same_rows}
-use Rattle.intake.proofs.Takes.{same_students, rise_tail, before_others, first_pair}
+use Rattle.intake.proofs.Takes.{place_head, place_shows, same_students}
+use Rattle.intake.proofs.Where.{not_later, rise_tail}
 
 -- quotas that are written the same are the same
 same_quota : (m n : ℕ) → m ≤ MAX_QUOTA → n ≤ MAX_QUOTA → decimal m ≡ decimal n → m ≡ n
@@ -70,30 +71,24 @@ one_choice : (list : List (List ℕ)) (k l : ℕ) → AreApart list (length list
 one_choice list k l apart h i e = let same = one_listed list (k - 1) (l - 1) apart (omega arith) (omega arith) e in omega (arith, same)
 
 -- places with the same rows of pairs are the same
-same_places : (known : List (List ℕ)) (es : List Student) (ks ls : List (Option ℕ)) → Rise (map (λ e. e.code) es) → All (λ e. IsSoundList known e.list) es → AllZip IsPlace es ks → AllZip IsPlace es ls → pair_rows es ks ≡ pair_rows es ls → ks ≡ ls
+same_places : (known : List (List ℕ)) (es : List Student) (ks ls : List (Option ℕ)) → Rise (map (λ e. e.code) es) → All (λ e. IsListOf Round known e.list) es → AllZip IsPlace es ks → AllZip IsPlace es ls → pair_rows es ks ≡ pair_rows es ls → ks ≡ ls
 same_places known [] [] [] rise d a b e = refl
 same_places known [] [] (l ∷ ls) rise d a b e = absurd b
 same_places known [] (k ∷ ks) ls rise d a b e = absurd a
 same_places known (x ∷ es) [] ls rise d a b e = absurd a
 same_places known (x ∷ es) (k ∷ ks) [] rise d a b e = absurd b
 same_places known (x ∷ es) (None ∷ ks) (None ∷ ls) rise d a b e =
-    ap (λ (m : List (Option ℕ)). None ∷ m) (same_places known es ks ls (rise_tail x.code (map (λ (e : Student). e.code) es) rise) (All-tail (λ (e : Student). IsSoundList known e.list) x es d) a.1 b.1 e)
+    ap (λ (m : List (Option ℕ)). None ∷ m) (same_places known es ks ls (rise_tail x.code (map (λ (e : Student). e.code) es) rise) (All-tail (λ (e : Student). IsListOf Round known e.list) x es d) a.1 b.1 e)
 same_places known (x ∷ es) (None ∷ ks) (Some l ∷ ls) rise d a b e =
-    let first = first_pair es ks (x.code ∷ choice_code x.list l ∷ []) (pair_rows es ls) e in
-    let is = first.is in
-    let same : x.code ≡ first.student.code = cc in
-    absurd (before_others x es first.at first.student rise first.here same)
+    absurd (not_later pair_row (λ (e : Student). e.code) IsSome place_head place_shows x (Some l) es ks (x.code ∷ choice_code x.list l ∷ []) (pair_rows es ls) rise refl e)
 same_places known (x ∷ es) (Some k ∷ ks) (None ∷ ls) rise d a b e =
-    let first = first_pair es ls (x.code ∷ choice_code x.list k ∷ []) (pair_rows es ks) (sym e) in
-    let is = first.is in
-    let same : x.code ≡ first.student.code = cc in
-    absurd (before_others x es first.at first.student rise first.here same)
+    absurd (not_later pair_row (λ (e : Student). e.code) IsSome place_head place_shows x (Some k) es ls (x.code ∷ choice_code x.list k ∷ []) (pair_rows es ks) rise refl (sym e))
 same_places known (x ∷ es) (Some k ∷ ks) (Some l ∷ ls) rise d a b e =
     let here : choice_code x.list k ≡ choice_code x.list l = cc in
     let rest : pair_rows es ks ≡ pair_rows es ls = cc in
-    let sound : IsSoundList known x.list = All-head (λ (e : Student). IsSoundList known e.list) x es d in
+    let sound : IsListOf Round known x.list = All-head (λ (e : Student). IsListOf Round known e.list) x es d in
     ap (λ (n : ℕ). Some n ∷ ks) (one_choice x.list k l sound.1.apart a.0 b.0 here)
-    ∙ ap (λ (m : List (Option ℕ)). Some l ∷ m) (same_places known es ks ls (rise_tail x.code (map (λ (e : Student). e.code) es) rise) (All-tail (λ (e : Student). IsSoundList known e.list) x es d) a.1 b.1 rest)
+    ∙ ap (λ (m : List (Option ℕ)). Some l ∷ m) (same_places known es ks ls (rise_tail x.code (map (λ (e : Student). e.code) es) rise) (All-tail (λ (e : Student). IsListOf Round known e.list) x es d) a.1 b.1 rest)
 
 -- numbers that are written the same are the same
 same_numbers : (v w : List ℤ) → ((t : ℕ) → t < length v → InRange (get_or v t (pos 0))) → ((t : ℕ) → t < length w → InRange (get_or w t (pos 0))) → map signed_decimal v ≡ map signed_decimal w → v ≡ w
@@ -111,7 +106,7 @@ pub same_price : (v w : List ℤ) → IsPrice v → IsPrice w → map signed_dec
 same_price v w a b e = same_numbers v w (λ t h. a.range t (omega (arith, a.numbers))) (λ t h. b.range t (omega (arith, b.numbers))) e
 
 -- prices of the same codes with the same rows are the same
-same_prices : (cs : List (List ℕ)) (us vs : List (List ℤ)) → length us ≤ length cs → length vs ≤ length cs → All IsPrice us → All IsPrice vs → price_rows cs us ≡ price_rows cs vs → us ≡ vs
+same_prices : (cs : List (List ℕ)) (us vs : List (List ℤ)) → length us ≤ length cs → length vs ≤ length cs → All IsPrice us → All IsPrice vs → price_rows Round cs us ≡ price_rows Round cs vs → us ≡ vs
 same_prices [] [] [] h i a b e = refl
 same_prices [] [] (v ∷ vs) h i a b e = absurd (omega arith)
 same_prices [] (u ∷ us) vs h i a b e = absurd (omega arith)
@@ -120,7 +115,7 @@ same_prices (c ∷ cs) [] (v ∷ vs) h i a b e = cc
 same_prices (c ∷ cs) (u ∷ us) [] h i a b e = cc
 same_prices (c ∷ cs) (u ∷ us) (v ∷ vs) h i a b e =
     let first : map signed_decimal u ≡ map signed_decimal v = cc in
-    let rest : price_rows cs us ≡ price_rows cs vs = cc in
+    let rest : price_rows Round cs us ≡ price_rows Round cs vs = cc in
     ap (λ (w : List ℤ). w ∷ us) (same_price u v (All-head IsPrice u us a) (All-head IsPrice v vs b) first)
     ∙ ap (λ (l : List (List ℤ)). v ∷ l) (same_prices cs us vs (omega arith) (omega arith) (All-tail IsPrice u us a) (All-tail IsPrice v vs b) rest)
 
@@ -129,10 +124,10 @@ few_prices : {X : Type 0} (code : X → List ℕ) (es : List X) (vs : List (List
 few_prices code es vs a = elim a.none_or_all [ inl none ↦ omega arith | inr all ↦ omega (arith, length-map es code) ]
 
 -- prices of one roll with the same rows are the same
-same_priced : {X : Type 0} (code : X → List ℕ) (es fs : List X) (us vs : List (List ℤ)) → es ≡ fs → ArePricesOrNone (length es) us → ArePricesOrNone (length fs) vs → price_rows (map code es) us ≡ price_rows (map code fs) vs → us ≡ vs
+same_priced : {X : Type 0} (code : X → List ℕ) (es fs : List X) (us vs : List (List ℤ)) → es ≡ fs → ArePricesOrNone (length es) us → ArePricesOrNone (length fs) vs → price_rows Round (map code es) us ≡ price_rows Round (map code fs) vs → us ≡ vs
 same_priced {X = X} code es fs us vs e a b rows =
     same_prices (map code fs) us vs (subst (λ (l : List X). length us ≤ length (map code l)) e (few_prices code es us a)) (few_prices code fs vs b) a.prices b.prices
-    (ap (λ (l : List X). price_rows (map code l) us) (sym e) ∙ rows)
+    (ap (λ (l : List X). price_rows Round (map code l) us) (sym e) ∙ rows)
 
 -- parts of the same aim and the same seven lists are the same
 same_parts : (m n : Aim) (a i : List Supervisor) (b j : List Project) (c k : List Student) (d l : List (Option ℕ)) (u v x y z w : List (List ℤ)) → m ≡ n → a ≡ i → b ≡ j → c ≡ k → d ≡ l → u ≡ v → x ≡ y → z ≡ w
@@ -141,10 +136,10 @@ same_parts : (m n : Aim) (a i : List Supervisor) (b j : List Project) (c k : Lis
 same_parts m n a i b j c k d l u v x y z w em ea eb ec ed eu ex ez = rw (em, ea, eb, ec, ed, eu, ex, ez) refl
 
 -- the rows of parts with one text
-one_rows : (p q : Parts) → IsRoundParts p → IsRoundParts q → round_text p ≡ round_text q → SameRows (sections p) (sections q)
+one_rows : (p q : Parts) → IsRoundParts p → IsRoundParts q → round_text p ≡ round_text q → SameRows (sections Round p) (sections Round q)
 one_rows p q v w e =
-    let lines : round_lines p ≡ round_lines q = append_cancel_right (round_lines p) (round_lines q) ([] ∷ []) (sym (round_pieces (round_text p) p v refl) ∙ round_pieces (round_text p) q w e) in
-    same_rows (sections p) (sections q) (sym (sections_back (sections p) (parts_plain 44 (omega arith) p v)) ∙ ap (map fields_of) lines ∙ sections_back (sections q) (parts_plain 44 (omega arith) q w))
+    let lines : lines_of Round p ≡ lines_of Round q = append_cancel_right (lines_of Round p) (lines_of Round q) ([] ∷ []) (sym (text_pieces Round (round_text p) p v refl) ∙ text_pieces Round (round_text p) q w e) in
+    same_rows (sections Round p) (sections Round q) (sym (sections_back (sections Round p) (parts_plain 44 (omega arith) Round p v)) ∙ ap (map fields_of) lines ∙ sections_back (sections Round q) (parts_plain 44 (omega arith) Round q w))
     (refl, (refl, (refl, (refl, (refl, (refl, (refl, (refl, tt)))))))) refl refl
 
 -- parts with one text are the same

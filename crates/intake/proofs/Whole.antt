@@ -1,6 +1,6 @@
 -- What is written is the parts of a round.
 use Rattle.std.proofs.Common.{◌≡◌, ◌≢◌, ℕ, suc, ◌<◌, ◌≤◌, inl, inr, ℤ, List, [], ◌∷◌, length, map, get_or, slice_get, Option, Some, None, All, Contains, refl, sym, ap, ◌∙◌, subst, arith}
-use Rattle.intake.proofs.Common.{IsTrue, AllPairs, AllZip, length-map, get_or_default, All-nil, All-cons, All-head, All-tail, Aim, IsPlaceOf, COMPONENTS, RANKS, MAX_QUOTA, is_code, code_at, AreApart, Supervisor, Project, Student, supervisor_codes, project_codes, student_codes, Named, IsFit, instance_of, supervisors_named, projects_named, students_named, IsWithin, IsSoundList, HasPlaces, EachInRange, AllInRange, HasShape, Prices, Rise, IsRoll, IsPlace, ArePricesOrNone, IsRoundInstance, IsRoundParts, alone, proved}
+use Rattle.intake.proofs.Common.{IsTrue, AllPairs, AllZip, length-map, get_or_default, All-nil, All-cons, All-head, All-tail, Aim, IsPlaceOf, COMPONENTS, RANKS, MAX_QUOTA, is_code, code_at, AreApart, Supervisor, Project, Student, supervisor_codes, project_codes, student_codes, Named, IsFit, instance_of, supervisors_named, projects_named, students_named, IsWithin, IsListOf, HasPlaces, EachInRange, AllInRange, HasShape, Prices, Rise, IsRoll, IsPlace, ArePricesOrNone, IsInstance, Round, IsRoundParts, alone, proved}
 use Rattle.intake.proofs.Found.{slice_get_at}
 use Rattle.intake.proofs.PairLine.{get_mapped}
 use Rattle.intake.proofs.Rolls.{contained}
@@ -37,7 +37,7 @@ same_value : (a b : List ℕ) → Some a ≡ Some b → a ≡ b
 same_value a b e = cc
 
 -- a list of positions is sound by codes
-sound_named : (codes : List (List ℕ)) (ps : List ℕ) → AreApart codes (length codes) → 0 < length ps → length ps ≤ RANKS → All (λ p. p < length codes) ps → AllPairs (λ p q. p ≢ q) ps → IsSoundList codes (map (code_at codes) ps)
+sound_named : (codes : List (List ℕ)) (ps : List ℕ) → AreApart codes (length codes) → 0 < length ps → length ps ≤ RANKS → All (λ p. p < length codes) ps → AllPairs (λ p q. p ≢ q) ps → IsListOf Round codes (map (code_at codes) ps)
 sound_named codes ps apart some few known distinct =
     let many : length (map (code_at codes) ps) ≡ length ps = length-map ps (code_at codes) in (
       (omega arith, omega arith),
@@ -56,12 +56,12 @@ sound_named codes ps apart some few known distinct =
 
 -- and so is each of the lists
 listed_named : (codes cs ls : List (List ℕ)) → AreApart codes (length codes) → All (λ xs. 0 < length xs) ls → All (λ xs. length xs ≤ RANKS) ls → All (λ xs. All (λ p. p < length codes) xs) ls → All (λ xs. AllPairs (λ p q. p ≢ q) xs) ls
-    → All (λ e. IsSoundList codes e.list) (students_named codes cs ls)
-listed_named codes [] ls apart some few known distinct = All-nil (λ (e : Student). IsSoundList codes e.list)
-listed_named codes (c ∷ cs) [] apart some few known distinct = All-nil (λ (e : Student). IsSoundList codes e.list)
+    → All (λ e. IsListOf Round codes e.list) (students_named codes cs ls)
+listed_named codes [] ls apart some few known distinct = All-nil (λ (e : Student). IsListOf Round codes e.list)
+listed_named codes (c ∷ cs) [] apart some few known distinct = All-nil (λ (e : Student). IsListOf Round codes e.list)
 listed_named codes (c ∷ cs) (l ∷ ls) apart some few known distinct =
     let e : Student = record { code = c; list = map (code_at codes) l } in
-    All-cons (λ (e : Student). IsSoundList codes e.list) e (students_named codes cs ls)
+    All-cons (λ (e : Student). IsListOf Round codes e.list) e (students_named codes cs ls)
     (sound_named codes l apart (All-head (λ (xs : List ℕ). 0 < length xs) l ls some) (All-head (λ (xs : List ℕ). length xs ≤ RANKS) l ls few) (All-head (λ (xs : List ℕ). All (λ p. p < length codes) xs) l ls known) (All-head (λ (xs : List ℕ). AllPairs (λ p q. p ≢ q) xs) l ls distinct))
     (listed_named codes cs ls apart (All-tail (λ (xs : List ℕ). 0 < length xs) l ls some) (All-tail (λ (xs : List ℕ). length xs ≤ RANKS) l ls few) (All-tail (λ (xs : List ℕ). All (λ p. p < length codes) xs) l ls known) (All-tail (λ (xs : List ℕ). AllPairs (λ p q. p ≢ q) xs) l ls distinct))
 
@@ -148,14 +148,14 @@ all_offered i fit =
     (offered_named i.supervisor_codes i.project_codes i.shape.projects known)
 
 -- the lists are sound
-all_listed : (i : Named) → IsFit i → All (λ e. IsSoundList (project_codes (instance_of i)) e.list) (instance_of i).students
+all_listed : (i : Named) → IsFit i → All (λ e. IsListOf Round (project_codes (instance_of i)) e.list) (instance_of i).students
 all_listed i fit =
     let known : All (λ (xs : List ℕ). All (λ p. p < length i.project_codes) xs) i.shape.students = λ k d h m e l. (let r = fit.sound.known k d h m e l in omega (arith, r, fit.projects.one_each)) in
-    subst (λ (l : List (List ℕ)). All (λ (e : Student). IsSoundList l e.list) (instance_of i).students) (sym (named_projects i.supervisor_codes i.project_codes i.shape.projects fit.projects.one_each))
+    subst (λ (l : List (List ℕ)). All (λ (e : Student). IsListOf Round l e.list) (instance_of i).students) (sym (named_projects i.supervisor_codes i.project_codes i.shape.projects fit.projects.one_each))
     (listed_named i.project_codes i.student_codes i.shape.students (subst (AreApart i.project_codes) (sym fit.projects.one_each) fit.projects.distinct) fit.sound.ranked fit.sound.within known fit.sound.distinct)
 
 -- a fit instance whose codes have the form and rise is one of a round
-round_instance : (i : Named) → IsFit i → HasForms i → HasRises i → IsRoundInstance (instance_of i)
+round_instance : (i : Named) → IsFit i → HasForms i → HasRises i → IsInstance Round (instance_of i)
 round_instance i fit form rise = record {
   within = within_limits i fit;
   supervisors = roll (supervisor_codes (instance_of i)) i.supervisor_codes (named_supervisors i.supervisor_codes i.shape.supervisors fit.supervisors.one_each) form.supervisors rise.supervisors;

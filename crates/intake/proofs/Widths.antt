@@ -1,8 +1,15 @@
 -- What is said of each field and row, said of the rows of all sections.
-use Rattle.std.proofs.Common.{◌≡◌, ℕ, zero, suc, ◌+◌, ◌-◌, ◌*◌, ◌<◌, ◌≤◌, ℤ, pos, true, List, [], ◌∷◌, length, map, get_or, slice_get, codes, decimal, Option, Some, None, All, Contains, refl, arith}
-use Rattle.intake.proofs.Common.{signed_decimal, IsTrue, ⊤, All-nil, All-cons, All-head, All-tail, All-map, All-contains, Aim, Greedy, Generous, MAX_QUOTA, RANKS, COMPONENTS, is_code, code_at, Instance, Supervisor, Project, Student, supervisor_codes, project_codes, student_codes, IsSoundList, InRange, Parts, IsRoll, IsPrice, IsRoundInstance, Row, Section, choice_code, sections, aim_rows, supervisor_row, project_row, student_row, pair_rows, price_rows}
+use Rattle.std.proofs.Common.{◌≡◌, ℕ, zero, suc, ◌+◌, ◌-◌, ◌*◌, ◌<◌, ◌≤◌, ℤ, pos, true, List, [], ◌∷◌, length, map, get_or, slice_get, codes, decimal, Option, Some, None, All, Contains, refl, sym, subst, arith}
+use Rattle.intake.proofs.Common.{signed_decimal, IsTrue, ⊤, All-nil, All-cons, All-head, All-tail, All-map, All-contains, Aim, Greedy, Generous, MAX_QUOTA, RANKS, COMPONENTS, is_code, code_at, Kind, Round, Public, Instance, Supervisor, Project, Student, supervisor_codes, project_codes, student_codes, IsListOf, most_listed, InRange, Parts, IsRoll, IsPrice, IsInstance, Row, Section, choice_code, sections, aim_rows, supervisor_row, project_row, student_row, pair_row, price_row, price_rows}
 use Rattle.intake.proofs.Found.{slice_get_at}
 use Rattle.intake.proofs.PairLine.{all_found, get_mapped}
+use Rattle.intake.proofs.Prices.{price_is}
+use Rattle.intake.proofs.Where.{rows_all}
+
+-- a list has no more projects than there are ranks
+pub most_ranks : (k : Kind) → most_listed k ≤ RANKS
+most_ranks Round = omega arith
+most_ranks Public = omega arith
 
 -- what is said of a field, and of a row of fields, by their widths
 pub record Said (F : ℕ → List ℕ → Type 0) (R : ℕ → Row → Type 0) : Type 0 where
@@ -62,22 +69,22 @@ module _ (F : ℕ → List ℕ → Type 0) (R : ℕ → Row → Type 0) (s : Sai
   last_quota n h = s.more 3 0 4 (decimal n) [] (s.quota n h) s.none (omega arith)
 
   -- the rows of supervisors
-  supervisor_rows : (i : Instance) → IsRoundInstance i → All (R 21) (map supervisor_row i.supervisors)
-  supervisor_rows i v = entry_rows supervisor_row 21 i.supervisors (λ n e at.
+  supervisor_rows : (k : Kind) (i : Instance) → IsInstance k i → All (R 21) (map supervisor_row i.supervisors)
+  supervisor_rows k i v = entry_rows supervisor_row 21 i.supervisors (λ n e at.
       s.more 16 4 21 e.code (decimal e.quota ∷ []) (s.code e.code (code_found (λ (e : Supervisor). e.code) i.supervisors n e v.supervisors.form at))
       (last_quota e.quota (quota_found (λ (e : Supervisor). e.quota) i.supervisors n e v.within.supervisor_quotas at)) (omega arith))
 
   -- the rows of projects
-  project_rows : (i : Instance) → IsRoundInstance i → All (R 38) (map project_row i.projects)
-  project_rows i v = entry_rows project_row 38 i.projects (λ n e at.
+  project_rows : (k : Kind) (i : Instance) → IsInstance k i → All (R 38) (map project_row i.projects)
+  project_rows k i v = entry_rows project_row 38 i.projects (λ n e at.
       let owner = All-contains (λ x. IsTrue (is_code x)) (supervisor_codes i) e.supervisor v.supervisors.form (all_found (λ (e : Project). Contains (supervisor_codes i) e.supervisor) i.projects n e v.offered at) in
       let quota = last_quota e.quota (quota_found (λ (e : Project). e.quota) i.projects n e v.within.project_quotas at) in
       s.more 16 21 38 e.code (e.supervisor ∷ decimal e.quota ∷ []) (s.code e.code (code_found (λ (e : Project). e.code) i.projects n e v.projects.form at))
       (s.more 16 4 21 e.supervisor (decimal e.quota ∷ []) (s.code e.supervisor owner) quota (omega arith)) (omega arith))
 
   -- the codes of a sound list
-  list_said : (known list : List (List ℕ)) → IsRoll known → IsSoundList known list → All (F 16) list
-  list_said known list roll sound = λ k d h. s.code (get_or list k d) (All-contains (λ x. IsTrue (is_code x)) known (get_or list k d) roll.form (sound.1.known k (get_or list k d) h (slice_get_at list k d (get_or list k d) h refl)))
+  list_said : (k : Kind) (known list : List (List ℕ)) → IsRoll known → IsListOf k known list → All (F 16) list
+  list_said kind known list roll sound = λ k d h. s.code (get_or list k d) (All-contains (λ x. IsTrue (is_code x)) known (get_or list k d) roll.form (sound.1.known k (get_or list k d) h (slice_get_at list k d (get_or list k d) h refl)))
 
   -- a row of codes
   code_rows : (list : List (List ℕ)) → All (F 16) list → R (17 * length list) list
@@ -85,14 +92,14 @@ module _ (F : ℕ → List ℕ → Type 0) (R : ℕ → Row → Type 0) (s : Sai
   code_rows (x ∷ list) h = s.more 16 (17 * length list) (17 * length (x ∷ list)) x list (All-head (F 16) x list h) (code_rows list (All-tail (F 16) x list h)) (omega arith)
 
   -- the lists of students
-  student_list : (i : Instance) (n : ℕ) (e : Student) → IsRoundInstance i → slice_get i.students n ≡ Some e → IsSoundList (project_codes i) e.list
-  student_list i n e v at = all_found (λ (e : Student). IsSoundList (project_codes i) e.list) i.students n e v.listed at
+  student_list : (k : Kind) (i : Instance) (n : ℕ) (e : Student) → IsInstance k i → slice_get i.students n ≡ Some e → IsListOf k (project_codes i) e.list
+  student_list k i n e v at = all_found (λ (e : Student). IsListOf k (project_codes i) e.list) i.students n e v.listed at
 
   -- the rows of students
-  student_rows : (i : Instance) → IsRoundInstance i → All (R list_width) (map student_row i.students)
-  student_rows i v = entry_rows student_row list_width i.students (λ n e at.
-      let sound = student_list i n e v at in
-      s.more 16 (17 * length e.list) list_width e.code e.list (s.code e.code (code_found (λ (e : Student). e.code) i.students n e v.students.form at)) (code_rows e.list (list_said (project_codes i) e.list v.projects sound)) (omega (arith, sound.0.1)))
+  student_rows : (k : Kind) (i : Instance) → IsInstance k i → All (R list_width) (map student_row i.students)
+  student_rows k i v = entry_rows student_row list_width i.students (λ n e at.
+      let sound = student_list k i n e v at in
+      s.more 16 (17 * length e.list) list_width e.code e.list (s.code e.code (code_found (λ (e : Student). e.code) i.students n e v.students.form at)) (code_rows e.list (list_said k (project_codes i) e.list v.projects sound)) (omega (arith, sound.0.1, most_ranks k)))
 
   -- a code of a list, or nothing past its end
   at_said : (list : List (List ℕ)) (k : ℕ) → All (F 16) list → F 16 (code_at list k)
@@ -100,16 +107,12 @@ module _ (F : ℕ → List ℕ → Type 0) (R : ℕ → Row → Type 0) (s : Sai
   at_said (x ∷ list) zero h = All-head (F 16) x list h
   at_said (x ∷ list) (suc k) h = at_said list k (All-tail (F 16) x list h)
 
-  -- the rows of pairs
-  pairs_said : (es : List Student) (ks : List (Option ℕ)) → ((n : ℕ) (e : Student) → slice_get es n ≡ Some e → F 16 e.code × All (F 16) e.list) → All (R 34) (pair_rows es ks)
-  pairs_said [] ks each = All-nil (R 34)
-  pairs_said (e ∷ es) [] each = All-nil (R 34)
-  pairs_said (e ∷ es) (None ∷ ks) each = pairs_said es ks (λ n x at. each (suc n) x at)
-  pairs_said (e ∷ es) (Some k ∷ ks) each =
-      let here = each 0 e refl in
-      All-cons (R 34) (e.code ∷ choice_code e.list k ∷ []) (pair_rows es ks)
-      (s.more 16 17 34 e.code (choice_code e.list k ∷ []) here.0 (s.more 16 0 17 (choice_code e.list k) [] (at_said e.list (k - 1) here.1) s.none (omega arith)) (omega arith))
-      (pairs_said es ks (λ n x at. each (suc n) x at))
+  -- the row of a pair
+  pair_said : (e : Student) (x : Option ℕ) (r : Row) → F 16 e.code → All (F 16) e.list → pair_row e x ≡ Some r → R 34 r
+  pair_said e None r f g h = cc
+  pair_said e (Some k) r f g h =
+      let is : e.code ∷ choice_code e.list k ∷ [] ≡ r = cc in
+      subst (R 34) is (s.more 16 17 34 e.code (choice_code e.list k ∷ []) f (s.more 16 0 17 (choice_code e.list k) [] (at_said e.list (k - 1) g) s.none (omega arith)) (omega arith))
 
   -- the numbers of a price
   numbers_said : (v : List ℤ) → ((t : ℕ) → t < length v → InRange (get_or v t (pos 0))) → R (9 * length v) (map signed_decimal v)
@@ -117,19 +120,17 @@ module _ (F : ℕ → List ℕ → Type 0) (R : ℕ → Row → Type 0) (s : Sai
   numbers_said (n ∷ v) h = s.more 8 (9 * length v) (9 * length (n ∷ v)) (signed_decimal n) (map signed_decimal v) (s.number n (h 0 (omega arith))) (numbers_said v (λ t l. h (suc t) (omega arith))) (omega arith)
 
   -- the rows of prices
-  prices_said : (cs : List (List ℕ)) (vs : List (List ℤ)) → All (λ c. IsTrue (is_code c)) cs → All IsPrice vs → All (R price_width) (price_rows cs vs)
-  prices_said [] vs f p = All-nil (R price_width)
-  prices_said (c ∷ cs) [] f p = All-nil (R price_width)
-  prices_said (c ∷ cs) (v ∷ vs) f p =
-      let price : IsPrice v = All-head IsPrice v vs p in
-      All-cons (R price_width) (c ∷ map signed_decimal v) (price_rows cs vs)
-      (s.more 16 (9 * length v) price_width c (map signed_decimal v) (s.code c (All-head (λ c. IsTrue (is_code c)) c cs f)) (numbers_said v (λ t l. price.range t (omega (arith, price.numbers)))) (omega (arith, price.numbers)))
-      (prices_said cs vs (All-tail (λ c. IsTrue (is_code c)) c cs f) (All-tail IsPrice v vs p))
+  prices_said : (k : Kind) (cs : List (List ℕ)) (vs : List (List ℤ)) → All (λ c. IsTrue (is_code c)) cs → All IsPrice vs → All (R price_width) (price_rows k cs vs)
+  prices_said k cs vs f p = rows_all (price_row k) (R price_width) cs vs (λ n c v r here has row.
+      let price : IsPrice v = all_found IsPrice vs n v p has in
+      subst (R price_width) (sym (price_is k c v r row).1)
+      (s.more 16 (9 * length v) price_width c (map signed_decimal v) (s.code c (all_found (λ c. IsTrue (is_code c)) cs n c f here)) (numbers_said v (λ t l. price.range t (omega (arith, price.numbers)))) (omega (arith, price.numbers))))
 
   -- the rows of an aim, an instance, places and prices
-  pub rows_said : (p : Parts) → IsRoundInstance p.instance → All IsPrice p.student_prices → All IsPrice p.project_prices → All IsPrice p.supervisor_prices → OfRows R widths (sections p)
-  rows_said p i u y z =
-      let pairs = pairs_said p.instance.students p.places (λ n e at. (s.code e.code (code_found (λ (e : Student). e.code) p.instance.students n e i.students.form at), list_said (project_codes p.instance) e.list i.projects (student_list p.instance n e i at))) in (
+  pub rows_said : (k : Kind) (p : Parts) → IsInstance k p.instance → All IsPrice p.student_prices → All IsPrice p.project_prices → All IsPrice p.supervisor_prices → OfRows R widths (sections k p)
+  rows_said k p i u y z =
+      let pairs = rows_all pair_row (R 34) p.instance.students p.places (λ n e x r at has row.
+      pair_said e x r (s.code e.code (code_found (λ (e : Student). e.code) p.instance.students n e i.students.form at)) (list_said k (project_codes p.instance) e.list i.projects (student_list k p.instance n e i at)) row) in (
         aim_said p.aim,
-        (supervisor_rows p.instance i, (project_rows p.instance i, (student_rows p.instance i, (pairs, (prices_said (student_codes p.instance) p.student_prices i.students.form u, (prices_said (project_codes p.instance) p.project_prices i.projects.form y, (prices_said (supervisor_codes p.instance) p.supervisor_prices i.supervisors.form z, tt))))))),
+        (supervisor_rows k p.instance i, (project_rows k p.instance i, (student_rows k p.instance i, (pairs, (prices_said k (student_codes p.instance) p.student_prices i.students.form u, (prices_said k (project_codes p.instance) p.project_prices i.projects.form y, (prices_said k (supervisor_codes p.instance) p.supervisor_prices i.supervisors.form z, tt))))))),
       )

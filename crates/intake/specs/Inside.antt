@@ -1,4 +1,4 @@
 -- What proofs need and no public clause says.
 pub mod PartialRound
 pub mod Entries
-pub mod PublicDraft
+pub mod Posting

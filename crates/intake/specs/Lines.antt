@@ -1,10 +1,12 @@
--- The text of a round: its lines in eight sections, each line a letter and fields.
-use Rattle.std.specs.Prelude.{ℕ, ◌-◌, ℤ, List, [], ◌∷◌, ◌++◌, map, flat_map, Option, Some, None, codes, decimal}
+-- The text of parts: its lines in eight sections, each line a letter and fields.
+use Rattle.std.specs.Prelude.{ℕ, zero, ◌-◌, ℤ, pos, Bool, true, false, not, cond, List, [], ◌∷◌, ◌++◌, map, flat_map, Option, Some, None, codes, decimal}
 use Rattle.std.specs.Fmt.{signed_decimal}
 use Rattle.spa.specs.declared.aim.Aim.{Aim}
 use Rattle.spa.specs.declared.aim.Aim.TheVariants.{Greedy, Generous}
 use Rattle.spa.specs.Codes.{code_at}
 use Rattle.spa.specs.Instance.{Instance, Supervisor, Project, Student, supervisor_codes, project_codes, student_codes}
+use Rattle.intake.specs.declared.section.Kind.{Kind}
+use Rattle.intake.specs.declared.section.Kind.TheVariants.{Round, Public}
 use Rattle.intake.specs.Parts.{Parts}
 
 -- the fields of a line after its letter
@@ -37,18 +39,44 @@ student_row e = e.code ∷ e.list
 abbrev pub choice_code : List (List ℕ) → ℕ → List ℕ
 choice_code list k = code_at list (k - 1)
 
--- a student's and a project's code for each place
-abbrev pub pair_rows : List Student → List (Option ℕ) → List Row
-pair_rows [] places = []
-pair_rows (e ∷ es) [] = []
-pair_rows (e ∷ es) (None ∷ places) = pair_rows es places
-pair_rows (e ∷ es) (Some k ∷ places) = (e.code ∷ choice_code e.list k ∷ []) ∷ pair_rows es places
+-- rows after one, or none
+abbrev pub row_before : Option Row → List Row → List Row
+row_before None rows = rows
+row_before (Some r) rows = r ∷ rows
 
--- for each price the code that has it and its numbers
-abbrev pub price_rows : List (List ℕ) → List (List ℤ) → List Row
-price_rows [] prices = []
-price_rows (c ∷ cs) [] = []
-price_rows (c ∷ cs) (v ∷ vs) = (c ∷ map signed_decimal v) ∷ price_rows cs vs
+-- for each entry and what it has the row, where that has one
+abbrev pub rows_where : {E X : Type 0} → (E → X → Option Row) → List E → List X → List Row
+rows_where row [] xs = []
+rows_where row (e ∷ es) [] = []
+rows_where row (e ∷ es) (x ∷ xs) = row_before (row e x) (rows_where row es xs)
+
+-- a place: the student's and the project's code
+abbrev pub pair_row : Student → Option ℕ → Option Row
+pair_row e None = None
+pair_row e (Some k) = Some (e.code ∷ choice_code e.list k ∷ [])
+
+-- those of some places
+abbrev pub pair_rows : List Student → List (Option ℕ) → List Row
+pair_rows es places = rows_where pair_row es places
+
+-- whether each number of a price is zero
+abbrev pub is_zero_price : List ℤ → Bool
+is_zero_price [] = true
+is_zero_price (pos zero ∷ v) = is_zero_price v
+is_zero_price (n ∷ v) = false
+
+-- whether a price has a line: in a result each that is not zero
+abbrev pub has_line : Kind → List ℤ → Bool
+has_line Round v = true
+has_line Public v = not (is_zero_price v)
+
+-- a price: the code that has it and its numbers
+abbrev pub price_row : Kind → List ℕ → List ℤ → Option Row
+price_row k c v = cond (has_line k v) (Some (c ∷ map signed_decimal v)) None
+
+-- those of some prices
+abbrev pub price_rows : Kind → List (List ℕ) → List (List ℤ) → List Row
+price_rows k cs vs = rows_where (price_row k) cs vs
 
 -- the prices of a roll: their letter, the codes of the roll, and the prices of the first of them
 pub record Priced : Type 0 where
@@ -65,21 +93,26 @@ priced p =
     ∷ []
 
 -- the section of the prices of a roll
-abbrev pub price_section : Priced → Section
-price_section s = record { letter = s.letter; rows = price_rows s.codes s.prices }
+abbrev pub price_section : Kind → Priced → Section
+price_section k s = record { letter = s.letter; rows = price_rows k s.codes s.prices }
+
+-- the letter of the students' lines
+abbrev pub student_letter : Kind → List ℕ
+student_letter Round = codes "C"
+student_letter Public = codes "R"
 
 -- the sections of an aim and an instance
-abbrev pub instance_sections : Aim → Instance → List Section
-instance_sections aim l =
+abbrev pub instance_sections : Kind → Aim → Instance → List Section
+instance_sections k aim l =
     record { letter = codes "A"; rows = aim_rows aim }
     ∷ record { letter = codes "S"; rows = map supervisor_row l.supervisors }
     ∷ record { letter = codes "P"; rows = map project_row l.projects }
-    ∷ record { letter = codes "C"; rows = map student_row l.students }
+    ∷ record { letter = student_letter k; rows = map student_row l.students }
     ∷ []
 
 -- all sections in their order
-abbrev pub sections : Parts → List Section
-sections p = instance_sections p.aim p.instance ++ record { letter = codes "M"; rows = pair_rows p.instance.students p.places } ∷ map price_section (priced p)
+abbrev pub sections : Kind → Parts → List Section
+sections k p = instance_sections k p.aim p.instance ++ record { letter = codes "M"; rows = pair_rows p.instance.students p.places } ∷ map (price_section k) (priced p)
 
 -- the letter, and each field after a comma
 abbrev pub line : List ℕ → Row → List ℕ
@@ -95,12 +128,20 @@ ended lines = flat_map (λ l. l ++ 10 ∷ []) lines
 
 -- the text of an aim and an instance alone
 abbrev pub instance_text : Aim → Instance → List ℕ
-instance_text aim l = ended (flat_map section_lines (instance_sections aim l))
+instance_text aim l = ended (flat_map section_lines (instance_sections Round aim l))
 
 -- the lines of all sections
-abbrev pub round_lines : Parts → List (List ℕ)
-round_lines p = flat_map section_lines (sections p)
+abbrev pub lines_of : Kind → Parts → List (List ℕ)
+lines_of k p = flat_map section_lines (sections k p)
 
 -- the text of the parts
+abbrev pub text_of : Kind → Parts → List ℕ
+text_of k p = ended (lines_of k p)
+
+-- the text of a round
 abbrev pub round_text : Parts → List ℕ
-round_text p = ended (round_lines p)
+round_text p = text_of Round p
+
+-- the text of a result that is posted without lists
+abbrev pub public_text : Parts → List ℕ
+public_text p = text_of Public p

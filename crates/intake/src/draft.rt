@@ -1,20 +1,21 @@
-//! The parts of a round text as far as it was read.
+//! The parts of a text as far as it was read.
 #![tactic(auto)]
 
-ghost use Rattle.std.specs.Prelude.{◌≡◌, ◌-◌, ◌++◌, ◌↔◌, ◌≤◌, ℕ, ℤ, List, [], ◌∷◌, map, length, replicate, All, IfOk, OnOk, MatchOption, IsTrue, None};
-ghost use Rattle.spa.specs.Instance.{student_codes, project_codes};
-ghost use Rattle.spa.specs.Made.{IsSoundList};
-ghost use Rattle.intake.specs.Parts.{IsRoll, IsRoundParts};
+ghost use Rattle.std.specs.Prelude.{◌≡◌, true, ◌<◌, ◌-◌, ◌++◌, ◌↔◌, ◌≤◌, ℕ, ℤ, List, [], ◌∷◌, map, length, replicate, All, IfOk, OnOk, MatchOption, IsTrue, None};
+ghost use Rattle.spa.specs.declared.TheConstants.{RANKS};
+ghost use Rattle.spa.specs.Instance.{supervisor_codes, student_codes, project_codes};
+ghost use Rattle.intake.specs.declared.section.Kind.TheVariants.{Round};
+ghost use Rattle.intake.specs.Parts.{IsListOf, IsRoll, IsRoundParts};
 ghost use Rattle.intake.specs.declared.section.SectionName.TheVariants.{Aims, Supervisors, Projects, Students, Pairs};
-ghost use Rattle.intake.specs.Inside.PartialRound.{draft_of, IsDraft, HasNoPrices, NoneOrAll, IsField, nothing, IsWhole};
-ghost use Rattle.intake.specs.Inside.Entries.{AddsEntry, AddsPrice, AddsLine, MayComeNext, line_of};
-ghost use Rattle.intake.specs.Lines.{round_lines};
+ghost use Rattle.intake.specs.Inside.PartialRound.{draft_of, IsDraft, HasLine, HasNoPrices, IsCompleted, NoneOrAll, IsField, nothing, IsWhole};
+ghost use Rattle.intake.specs.Inside.Entries.{AddsEntry, AddsPrice, AddsLine, AddsOne, HasNoPairs, HasNoProjects, HasNoStudents, MayComeNext, NextAim, NextPair, NextProject, NextSupervisor, StandsAfter, line_of, with_entry, zeros};
+ghost use Rattle.intake.specs.Lines.{is_zero_price, lines_of};
 ghost use Rattle.intake.specs.View.{parts_read};
 
 use crate::fields::{pieces, read_price, read_quota};
 use crate::lookup::{Coded, next_code, position_at, position_in};
 use crate::round::RoundParts;
-use crate::section::{SectionName, section_of};
+use crate::section::{Kind, SectionName};
 use arrayvec::ArrayVec;
 use spa::{
     Aim, COMPONENTS, Code, Guesses, Instance, InstanceFault, MAX_PROJECTS, MAX_STUDENTS,
@@ -27,27 +28,30 @@ use verdict::Prices;
 /// entries of a roll.
 #[derive(Drop)]
 pub(crate) struct PartialRound {
-    aim: Aim,
-    supervisors: Vec<(Code, u32)>,
-    projects: Vec<(Code, Code, u32)>,
-    students: Vec<(Code, Vec<Code>)>,
-    places: Vec<Option<u8>>,
-    prices: Prices,
+    pub(crate) aim: Aim,
+    pub(crate) supervisors: Vec<(Code, u32)>,
+    pub(crate) projects: Vec<(Code, Code, u32)>,
+    pub(crate) students: Vec<(Code, Vec<Code>)>,
+    pub(crate) places: Vec<Option<u8>>,
+    pub(crate) prices: Prices,
     by_supervisor: Guesses,
     by_project: Guesses,
 }
 
-/// Reads a list of projects, each of them known and none twice.
+/// Reads the projects after a student's code, each of them known and none twice.
 fn read_list(
+    kind: Kind,
     alloc: Global,
     projects: &[(Code, Code, u32)],
     guesses: &Guesses,
     fields: &[&[u8]],
 ) -> Result<Option<Vec<Code>>, AllocError>
     requires { IsRoll (map (λ e. e.0) projects.now) }
-    ensures { IfOk result (λ o. MatchOption o (¬ IsSoundList (map (λ e. e.0) projects.now) (map (λ f. f.now) fields.now)) (λ l. (l.items ≡ map (λ f. f.now) fields.now) × IsSoundList (map (λ e. e.0) projects.now) (map (λ f. f.now) fields.now))) }
+    ensures { IfOk result (λ o. MatchOption o (¬ IsListOf kind (map (λ e. e.0) projects.now) (map (λ f. f.now) fields.now))
+        (λ l. (l.items ≡ map (λ f. f.now) fields.now) × IsListOf kind (map (λ e. e.0) projects.now) (map (λ f. f.now) fields.now))) }
 {
-    if fields.is_empty() || fields.len() > RANKS {
+    let (least, most) = kind.listed();
+    if fields.len() < least || fields.len() > most {
         return Ok(None);
     }
     let mut list = Vec::with_capacity(alloc, fields.len())?;
@@ -65,47 +69,76 @@ fn read_list(
     Ok(Some(list))
 }
 
-/// Adds the price of the next entry of a roll.
+/// Whether each number of a price is zero.
+fn is_zero(price: &[i64; COMPONENTS]) -> bool
+    ensures { IsTrue result ↔ (is_zero_price price.now ≡ true) }
+{
+    price.iter().all(|number| *number == 0)
+}
+
+/// Whether a price has a line.
+pub(crate) fn has_line(kind: Kind, price: &[i64; COMPONENTS]) -> bool
+    ensures { IsTrue result ↔ HasLine kind price.now }
+{
+    kind == Kind::Round || !is_zero(price)
+}
+
+/// Whether a price may stand at a position after those of the first entries, whose number is given.
+fn stands_after(kind: Kind, priced: usize, position: usize) -> bool
+    ensures { IsTrue result ↔ StandsAfter kind priced position }
+{
+    match kind {
+        Kind::Round => position == priced,
+        Kind::Public => position >= priced,
+    }
+}
+
+/// Fills a list with a value up to a length.
+pub(crate) fn fill<T: Copy>(list: &mut Vec<T>, len: usize, value: T) -> Result<(), AllocError>
+    requires { length list.old.items ≤ len }
+    ensures { OnOk result (list.new.items ≡ list.old.items ++ replicate (len - length list.old.items) value) }
+{
+    for _ in list.len()..len {
+        list.push(value)?;
+    }
+    Ok(())
+}
+
+/// Adds the price of an entry of a roll, after those that have one.
 fn add_price<E: Coded>(
+    kind: Kind,
     prices: &mut Vec<[i64; COMPONENTS]>,
     roll: &[E],
     fields: &[&[u8]],
 ) -> Result<bool, AllocError>
-    ensures { IfOk result (λ b. AddsPrice (map E.key roll.now) prices.old.items (map (λ f. f.now) fields.now) prices.new.items b) }
+    requires { IsRoll (map E.key roll.now) }
+    ensures { IfOk result (λ b. AddsPrice kind (map E.key roll.now) prices.old.items (map (λ f. f.now) fields.now) prices.new.items b) }
 {
     let Some((code, numbers)) = fields.split_first() else {
         return Ok(false);
     };
-    let next = prices.len();
-    if next >= roll.len() {
+    let Some(position) = position_at(roll, code, prices.len()) else {
         return Ok(false);
-    }
-    if roll[next].code().as_bytes() != *code {
+    };
+    if !stands_after(kind, prices.len(), position) {
         return Ok(false);
     }
     let Some(price) = read_price(numbers) else {
         return Ok(false);
     };
+    if !has_line(kind, &price) {
+        return Ok(false);
+    }
+    fill(prices, position, [0; COMPONENTS])?;
     prices.push(price)?;
     Ok(true)
 }
 
-/// Fills places with none up to a length.
-fn fill(places: &mut Vec<Option<u8>>, len: usize) -> Result<(), AllocError>
-    requires { length places.old.items ≤ len }
-    ensures { OnOk result (places.new.items ≡ places.old.items ++ replicate (len - length places.old.items) None) }
+/// Whether the prices of a roll are complete: a round has none or one for each entry.
+fn is_completed(kind: Kind, prices: &[[i64; COMPONENTS]], entries: usize) -> bool
+    ensures { IsTrue result ↔ IsCompleted kind entries prices.now }
 {
-    for _ in places.len()..len {
-        places.push(None)?;
-    }
-    Ok(())
-}
-
-/// Whether there is no price, or one for each entry.
-fn is_none_or_all(prices: &[[i64; COMPONENTS]], entries: usize) -> bool
-    ensures { IsTrue result ↔ NoneOrAll entries prices.now }
-{
-    prices.is_empty() || prices.len() == entries
+    kind == Kind::Public || prices.is_empty() || prices.len() == entries
 }
 
 impl PartialRound {
@@ -138,45 +171,68 @@ impl PartialRound {
             && self.prices.supervisors.is_empty()
     }
 
-    /// Whether the students have no price or one each.
-    fn has_students_priced(&self) -> bool
-        ensures { IsTrue result ↔ NoneOrAll (length (student_codes (draft_of self.now).instance)) (draft_of self.now).student_prices }
+    /// Whether no pair and no price was read.
+    fn has_no_pairs(&self) -> bool
+        ensures { IsTrue result ↔ HasNoPairs (draft_of self.now) }
     {
-        is_none_or_all(&self.prices.students, self.students.len())
+        self.places.is_empty() && self.has_no_prices()
     }
 
-    /// Whether the projects have no price or one each.
-    fn has_projects_priced(&self) -> bool
-        ensures { IsTrue result ↔ NoneOrAll (length (project_codes (draft_of self.now).instance)) (draft_of self.now).project_prices }
+    /// Whether no student was read, nor anything after.
+    fn has_no_students(&self) -> bool
+        ensures { IsTrue result ↔ HasNoStudents (draft_of self.now) }
     {
-        is_none_or_all(&self.prices.projects, self.projects.len())
+        self.students.is_empty() && self.has_no_pairs()
+    }
+
+    /// Whether no project was read, nor anything after.
+    fn has_no_projects(&self) -> bool
+        ensures { IsTrue result ↔ HasNoProjects (draft_of self.now) }
+    {
+        self.projects.is_empty() && self.has_no_students()
+    }
+
+    /// Whether the prices of the students are complete.
+    fn has_students_priced(&self, kind: Kind) -> bool
+        ensures { IsTrue result ↔ IsCompleted kind (length (student_codes (draft_of self.now).instance)) (draft_of self.now).student_prices }
+    {
+        is_completed(kind, &self.prices.students, self.students.len())
+    }
+
+    /// Whether the prices of the projects are complete.
+    fn has_projects_priced(&self, kind: Kind) -> bool
+        ensures { IsTrue result ↔ IsCompleted kind (length (project_codes (draft_of self.now).instance)) (draft_of self.now).project_prices }
+    {
+        is_completed(kind, &self.prices.projects, self.projects.len())
     }
 
     /// Whether a line of a section may come.
-    fn may_come_next(&self, section: SectionName) -> bool
-        ensures { IsTrue result ↔ MayComeNext section (draft_of self.now) }
+    fn may_come_next(&self, kind: Kind, section: SectionName) -> bool
+        ensures { IsTrue result ↔ MayComeNext kind section (draft_of self.now) }
     {
         match section {
-            SectionName::Aims => self.supervisors.is_empty() && self.has_no_prices(),
-            SectionName::Supervisors => self.projects.is_empty() && self.has_no_prices(),
-            SectionName::Projects => self.students.is_empty() && self.has_no_prices(),
-            SectionName::Students => self.places.is_empty() && self.has_no_prices(),
-            SectionName::Pairs => self.has_no_prices(),
+            SectionName::Aims => self.supervisors.is_empty() && self.has_no_projects(),
+            SectionName::Supervisors => self.has_no_projects(),
+            SectionName::Projects => self.has_no_students(),
+            SectionName::Students => self.has_no_pairs(),
+            SectionName::Pairs => kind == Kind::Round && self.has_no_prices(),
             SectionName::StudentPrices => {
-                self.prices.projects.is_empty() && self.prices.supervisors.is_empty()
+                kind == Kind::Round
+                    && self.prices.projects.is_empty()
+                    && self.prices.supervisors.is_empty()
             }
             SectionName::ProjectPrices => {
-                self.has_students_priced() && self.prices.supervisors.is_empty()
+                self.has_students_priced(kind) && self.prices.supervisors.is_empty()
             }
             SectionName::SupervisorPrices => {
-                self.has_students_priced() && self.has_projects_priced()
+                self.has_students_priced(kind) && self.has_projects_priced(kind)
             }
         }
     }
 
     /// Makes the aim generous, if the fields say so and none before did.
     fn add_aim(&mut self, fields: &[&[u8]]) -> bool
-        ensures { AddsEntry Aims (draft_of self.old) (map (λ f. f.now) fields.now) (draft_of self.new) result }
+        ensures { AddsOne (NextAim (draft_of self.old).aim (map (λ f. f.now) fields.now)) (with_entry Aims (draft_of self.old)) (draft_of self.new) result }
     {
         let [name] = fields else {
             return false;
@@ -193,8 +249,8 @@ impl PartialRound {
 
     /// Adds a supervisor, if the fields are of the next.
     fn add_supervisor(&mut self, fields: &[&[u8]]) -> Result<bool, AllocError>
-        requires { IsDraft (draft_of self.old) }
-        ensures { IfOk result (λ b. AddsEntry Supervisors (draft_of self.old) (map (λ f. f.now) fields.now) (draft_of self.new) b) }
+        requires { IsRoll (supervisor_codes (draft_of self.old).instance) }
+        ensures { IfOk result (λ b. AddsOne (NextSupervisor (draft_of self.old) (map (λ f. f.now) fields.now)) (with_entry Supervisors (draft_of self.old)) (draft_of self.new) b) }
     {
         let [code, quota] = fields else {
             return Ok(false);
@@ -213,8 +269,9 @@ impl PartialRound {
 
     /// Adds a project, if the fields are of the next.
     fn add_project(&mut self, fields: &[&[u8]]) -> Result<bool, AllocError>
-        requires { IsDraft (draft_of self.old) }
-        ensures { IfOk result (λ b. AddsEntry Projects (draft_of self.old) (map (λ f. f.now) fields.now) (draft_of self.new) b) }
+        requires supervisors { IsRoll (supervisor_codes (draft_of self.old).instance) }
+        requires projects { IsRoll (project_codes (draft_of self.old).instance) }
+        ensures { IfOk result (λ b. AddsOne (NextProject (draft_of self.old) (map (λ f. f.now) fields.now)) (with_entry Projects (draft_of self.old)) (draft_of self.new) b) }
     {
         let [code, supervisor, quota] = fields else {
             return Ok(false);
@@ -237,9 +294,14 @@ impl PartialRound {
     }
 
     /// Adds a student, if the fields are of the next.
-    fn add_student(&mut self, alloc: Global, fields: &[&[u8]]) -> Result<bool, AllocError>
-        requires { IsDraft (draft_of self.old) }
-        ensures { IfOk result (λ b. AddsEntry Students (draft_of self.old) (map (λ f. f.now) fields.now) (draft_of self.new) b) }
+    fn add_student(
+        &mut self,
+        kind: Kind,
+        alloc: Global,
+        fields: &[&[u8]],
+    ) -> Result<bool, AllocError>
+        requires { IsDraft kind (draft_of self.old) }
+        ensures { IfOk result (λ b. AddsEntry kind Students (draft_of self.old) (map (λ f. f.now) fields.now) (draft_of self.new) b) }
     {
         let Some((code, list)) = fields.split_first() else {
             return Ok(false);
@@ -247,7 +309,7 @@ impl PartialRound {
         let Some(code) = next_code(&self.students, MAX_STUDENTS, code) else {
             return Ok(false);
         };
-        let Some(list) = read_list(alloc, &self.projects, &self.by_project, list)? else {
+        let Some(list) = read_list(kind, alloc, &self.projects, &self.by_project, list)? else {
             return Ok(false);
         };
         self.students.push((code, list))?;
@@ -256,8 +318,9 @@ impl PartialRound {
 
     /// Adds a pair, if the fields are of the next.
     fn add_pair(&mut self, fields: &[&[u8]]) -> Result<bool, AllocError>
-        requires { IsDraft (draft_of self.old) }
-        ensures { IfOk result (λ b. AddsEntry Pairs (draft_of self.old) (map (λ f. f.now) fields.now) (draft_of self.new) b) }
+        requires students { IsRoll (student_codes (draft_of self.old).instance) }
+        requires lists { All (λ e. length e.list ≤ RANKS) (draft_of self.old).instance.students }
+        ensures { IfOk result (λ b. AddsOne (λ e. NextPair (draft_of self.old) (map (λ f. f.now) fields.now) e.0 e.1) (with_entry Pairs (draft_of self.old)) (draft_of self.new) b) }
     {
         let [student, project] = fields else {
             return Ok(false);
@@ -274,7 +337,7 @@ impl PartialRound {
             return Ok(false);
         };
         let place = before as u8 + 1;
-        fill(&mut self.places, position)?;
+        fill(&mut self.places, position, None)?;
         self.places.push(Some(place))?;
         Ok(true)
     }
@@ -282,79 +345,85 @@ impl PartialRound {
     /// Adds what a row of a section stands for, if it comes next there.
     fn add_to(
         &mut self,
+        kind: Kind,
         alloc: Global,
         section: SectionName,
         row: &[&[u8]],
     ) -> Result<bool, AllocError>
-        requires { IsDraft (draft_of self.old) }
-        ensures { IfOk result (λ b. AddsEntry section (draft_of self.old) (map (λ f. f.now) row.now) (draft_of self.new) b) }
+        requires { IsDraft kind (draft_of self.old) }
+        ensures { IfOk result (λ b. AddsEntry kind section (draft_of self.old) (map (λ f. f.now) row.now) (draft_of self.new) b) }
     {
         match section {
             SectionName::Aims => Ok(self.add_aim(row)),
             SectionName::Supervisors => self.add_supervisor(row),
             SectionName::Projects => self.add_project(row),
-            SectionName::Students => self.add_student(alloc, row),
+            SectionName::Students => self.add_student(kind, alloc, row),
             SectionName::Pairs => self.add_pair(row),
             SectionName::StudentPrices => {
-                let added = add_price(&mut self.prices.students, &self.students, row)?;
+                let added = add_price(kind, &mut self.prices.students, &self.students, row)?;
                 Ok(added)
             }
             SectionName::ProjectPrices => {
-                let added = add_price(&mut self.prices.projects, &self.projects, row)?;
+                let added = add_price(kind, &mut self.prices.projects, &self.projects, row)?;
                 Ok(added)
             }
             SectionName::SupervisorPrices => {
-                let added = add_price(&mut self.prices.supervisors, &self.supervisors, row)?;
+                let added = add_price(kind, &mut self.prices.supervisors, &self.supervisors, row)?;
                 Ok(added)
             }
         }
     }
 
     /// Adds what a line's fields stand for, if they may come here.
-    fn add(&mut self, alloc: Global, fields: &[&[u8]]) -> Result<bool, AllocError>
-        requires draft { IsDraft (draft_of self.old) }
+    fn add(&mut self, kind: Kind, alloc: Global, fields: &[&[u8]]) -> Result<bool, AllocError>
+        requires draft { IsDraft kind (draft_of self.old) }
         requires fields { All IsField (map (λ f. f.now) fields.now) }
-        ensures { IfOk result (λ b. AddsLine (draft_of self.old) (line_of (map (λ f. f.now) fields.now)) (draft_of self.new) b) }
+        ensures { IfOk result (λ b. AddsLine kind (draft_of self.old) (line_of (map (λ f. f.now) fields.now)) (draft_of self.new) b) }
     {
         let Some((letter, row)) = fields.split_first() else {
             return Ok(false);
         };
-        let Some(section) = section_of(letter) else {
+        let Some(section) = kind.section_of(letter) else {
             return Ok(false);
         };
-        if !self.may_come_next(section) {
+        if !self.may_come_next(kind, section) {
             return Ok(false);
         }
-        self.add_to(alloc, section, row)
+        self.add_to(kind, alloc, section, row)
     }
 
     /// Adds what a line stands for, if it may come here.
-    pub(crate) fn add_line(&mut self, alloc: Global, line: &[u8]) -> Result<bool, AllocError>
-        requires { IsDraft (draft_of self.old) }
-        ensures { IfOk result (λ b. AddsLine (draft_of self.old) line.now (draft_of self.new) b) }
+    pub(crate) fn add_line(
+        &mut self,
+        kind: Kind,
+        alloc: Global,
+        line: &[u8],
+    ) -> Result<bool, AllocError>
+        requires { IsDraft kind (draft_of self.old) }
+        ensures { IfOk result (λ b. AddsLine kind (draft_of self.old) line.now (draft_of self.new) b) }
     {
         let fields = pieces(alloc, line, b',', COMPONENTS + 2)?;
-        self.add(alloc, &fields)
+        self.add(kind, alloc, &fields)
     }
 
     /// Whether the text may end here.
-    pub(crate) fn is_whole(&self) -> bool
-        ensures { IsTrue result ↔ IsWhole (draft_of self.now) }
+    pub(crate) fn is_whole(&self, kind: Kind) -> bool
+        ensures { IsTrue result ↔ IsWhole kind (draft_of self.now) }
     {
-        self.has_students_priced()
-            && self.has_projects_priced()
-            && is_none_or_all(&self.prices.supervisors, self.supervisors.len())
+        self.has_students_priced(kind)
+            && self.has_projects_priced(kind)
+            && is_completed(kind, &self.prices.supervisors, self.supervisors.len())
     }
 
-    /// Returns the parts that were read.
+    /// Returns the parts of a round that were read.
     pub(crate) fn finish(self, alloc: Global) -> Result<RoundParts, AllocError>
-        requires draft { IsDraft (draft_of self) }
-        requires whole { IsWhole (draft_of self) }
+        requires draft { IsDraft Round (draft_of self) }
+        requires whole { IsWhole Round (draft_of self) }
         ensures parts { IfOk result (λ r. IsRoundParts (parts_read r)) }
-        ensures lines { IfOk result (λ r. round_lines (parts_read r) ≡ round_lines (draft_of self)) }
+        ensures lines { IfOk result (λ r. lines_of Round (parts_read r) ≡ lines_of Round (draft_of self)) }
     {
         let mut places = self.places;
-        fill(&mut places, self.students.len())?;
+        fill(&mut places, self.students.len(), None)?;
         match Instance::new(alloc, self.supervisors, self.projects, self.students) {
             Ok(instance) => Ok(RoundParts {
                 aim: self.aim,

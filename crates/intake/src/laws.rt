@@ -2,6 +2,7 @@
 #![tactic(auto)]
 
 ghost use Rattle.std.specs.Prelude.{◌≡◌, Result};
+ghost use Rattle.intake.specs.declared.TheConstants.{MAX_BYTES};
 ghost use Rattle.intake.specs.Parts.{Parts, IsRoundParts};
 ghost use Rattle.intake.specs.Lines.{round_text};
 ghost use Rattle.intake.specs.Reading.{IsReading, IsReadBack};
@@ -14,4 +15,7 @@ pub fn round_law()
 
     // It is not too large, and no line of it is bad.
     ensures back { (p : Parts) (r : Result RoundParts RoundFault) → IsRoundParts p → IsReading (round_text p) r → IsReadBack p r }
+
+    // The most bytes of a text.
+    ensures limit { MAX_BYTES ≡ 524288 }
 {}

@@ -16,7 +16,6 @@ mod laws;
 mod lines;
 mod lookup;
 mod public_parts;
-mod public_read;
 mod public_write;
 mod read;
 mod round;
@@ -26,9 +25,8 @@ mod write;
 pub use imports::{ImportFault, read_import};
 pub use laws::round_law;
 pub use public_parts::PublicParts;
-pub use public_read::{is_public, line_fields, read_public};
 pub use public_write::write_public;
-pub use read::read_round;
+pub use read::{is_public, line_fields, read_public, read_round};
 pub use round::{RoundFault, RoundParts};
 pub use write::write_round;
 

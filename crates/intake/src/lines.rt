@@ -50,15 +50,15 @@ fn push_codes(out: &mut String, known: &[Code], positions: &[usize]) -> Result<(
 /// Appends a student's line.
 pub(crate) fn push_student(
     out: &mut String,
+    letter: &str,
     code: &str,
     projects: &[Code],
     list: &[usize],
 ) -> Result<(), AllocError>
     requires { All (λ p. p < length projects.now) list.now }
-    ensures { OnOk result (string_bytes out.new ≡ string_bytes out.old ++ ended (line (codes "C") (code.now ∷ map (code_at projects.now) list.now) ∷ [])) }
+    ensures { OnOk result (string_bytes out.new ≡ string_bytes out.old ++ ended (line letter.now (code.now ∷ map (code_at projects.now) list.now) ∷ [])) }
 {
-    out.push_str("C,")?;
-    out.push_str(code)?;
+    write!(out, "{letter},{code}")?;
     push_codes(out, projects, list)?;
     out.push_str("\n")
 }

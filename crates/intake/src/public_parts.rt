@@ -1,20 +1,19 @@
-//! The parts of a public text, and the parts of one as far as it was read.
+//! The parts of a public text, made of what was read.
 #![tactic(auto)]
 
-ghost use Rattle.std.specs.Prelude.{◌≡◌, ◌≤◌, ◌<◌, ◌-◌, ◌++◌, ◌↔◌, ℕ, ℤ, List, [], length, map, replicate, pos, IfOk, IfSome, OnOk, MatchOption, IsTrue, All, Contains, true};
-ghost use Rattle.spa.specs.declared.TheConstants.{COMPONENTS};
-ghost use Rattle.intake.specs.Parts.{IsRoll, Rise};
-ghost use Rattle.intake.specs.Public.{IsPublicParts, codes_in, cost_rows, is_zero_price, public_lines, rows_of_parts, told_fields};
-ghost use Rattle.intake.specs.declared.section.PublicSection.TheVariants.{Aims, Supervisors, Projects, Students, ProjectPrices, SupervisorPrices};
-ghost use Rattle.intake.specs.Inside.Entries.{line_of};
-ghost use Rattle.intake.specs.Inside.PartialRound.{IsField};
-ghost use Rattle.intake.specs.Inside.PublicDraft.{AddsCost, AddsPublicLine, AddsRow, AreCosts, HasTurn, IsPublicDraft, zeros};
+ghost use Rattle.std.specs.Prelude.{◌≡◌, ◌<◌, map, length, slice_get, Some, IfOk, IfSome, All, Contains};
+ghost use Rattle.spa.specs.Codes.{code_at};
+ghost use Rattle.intake.specs.declared.section.Kind.TheVariants.{Public};
+ghost use Rattle.intake.specs.Parts.{IsListOf, IsRoll};
+ghost use Rattle.intake.specs.Lines.{lines_of};
+ghost use Rattle.intake.specs.Public.{IsPublicParts, public_read, told_list};
+ghost use Rattle.intake.specs.Inside.PartialRound.{draft_of, IsDraft};
+ghost use Rattle.intake.specs.Inside.Posting.{ArePostedProjects, ArePostedStudents, ArePostedSupervisors};
 
-use crate::fields::{pieces, read_price, read_quota};
-use crate::lookup::{next_code, position_at};
-use crate::section::{PublicSection, public_section_of};
+use crate::draft::{PartialRound, fill};
+use crate::lookup::position_of;
 use public_result::Posted;
-use spa::{Aim, COMPONENTS, Code, MAX_PROJECTS, MAX_STUDENTS, MAX_SUPERVISORS};
+use spa::{Aim, COMPONENTS, Code};
 use std::alloc::{AllocError, Global};
 
 /// The parts of a public text: what is posted of a round, with its aim and the codes of who is in it.
@@ -32,284 +31,112 @@ pub struct PublicParts {
     pub posted: Posted,
 }
 
-/// Whether each number of a price is zero.
-pub(crate) fn is_zero(price: &[i64; COMPONENTS]) -> bool
-    ensures { IsTrue result ↔ (is_zero_price price.now ≡ true) }
+/// Returns the position of a code that stands in a roll.
+fn owner_of(supervisors: &[(Code, u32)], code: &Code) -> usize
+    requires roll { IsRoll (map (λ e. e.0) supervisors.now) }
+    requires known { Contains (map (λ e. e.0) supervisors.now) code.now }
+    ensures { slice_get (map (λ e. e.0) supervisors.now) result ≡ Some code.now }
 {
-    price.iter().all(|number| *number == 0)
+    match position_of(supervisors, code.as_str()) {
+        Some(owner) => owner,
+        None => unreachable!(),
+    }
 }
 
-/// Fills prices with zeros up to a length.
-fn fill(prices: &mut Vec<[i64; COMPONENTS]>, len: usize) -> Result<(), AllocError>
-    requires { length prices.old.items ≤ len }
-    ensures { OnOk result (prices.new.items ≡ prices.old.items ++ replicate (len - length prices.old.items) zeros) }
+/// Returns the position of the project that stands in the place of a list, or none.
+fn told_of(projects: &[(Code, Code, u32)], list: &[Code]) -> Option<usize>
+    requires roll { IsRoll (map (λ e. e.0) projects.now) }
+    requires list { IsListOf Public (map (λ e. e.0) projects.now) list.now }
+    ensures list { map (code_at (map (λ e. e.0) projects.now)) (told_list result) ≡ list.now }
+    ensures known { IfSome result (λ p. p < length projects.now) }
 {
-    for _ in prices.len()..len {
-        prices.push([0; COMPONENTS])?;
-    }
-    Ok(())
-}
-
-/// Adds the price of an entry of a roll, after those that have one.
-fn add_cost(
-    prices: &mut Vec<[i64; COMPONENTS]>,
-    roll: &[Code],
-    most: usize,
-    fields: &[&[u8]],
-) -> Result<bool, AllocError>
-    requires roll { IsRoll roll.now }
-    requires few { length roll.now ≤ most }
-    requires costs { AreCosts (length roll.now) prices.old.items }
-    requires rise { Rise (codes_in (cost_rows roll.now prices.old.items)) }
-    ensures { IfOk result (λ b. AddsCost most roll.now prices.old.items (map (λ f. f.now) fields.now) prices.new.items b) }
-{
-    let Some((code, numbers)) = fields.split_first() else {
-        return Ok(false);
-    };
-    let Some(position) = position_at(roll, code, prices.len()) else {
-        return Ok(false);
-    };
-    if position < prices.len() {
-        return Ok(false);
-    }
-    let Some(price) = read_price(numbers) else {
-        return Ok(false);
-    };
-    if is_zero(&price) {
-        return Ok(false);
-    }
-    fill(prices, position)?;
-    prices.push(price)?;
-    Ok(true)
-}
-
-/// Reads what a student is assigned: the position of one project, or none.
-fn read_told(projects: &[Code], fields: &[&[u8]]) -> Option<Option<usize>>
-    requires { IsRoll projects.now }
-    ensures { MatchOption result ((length (map (λ f. f.now) fields.now) ≤ 1) → All (Contains projects.now) (map (λ f. f.now) fields.now) → ⊥)
-        (λ told. (map (λ f. f.now) fields.now ≡ told_fields projects.now told) × IfSome told (λ p. p < length projects.now)) }
-{
-    if fields.is_empty() {
-        return Some(None);
-    }
-    let [project] = fields else {
+    let Some(code) = list.first() else {
         return None;
     };
-    let Some(position) = position_at(projects, project, 0) else {
-        return None;
-    };
-    Some(Some(position))
+    position_of(projects, code.as_str())
+}
+
+/// Returns the codes and the quotas of supervisors.
+fn post_supervisors(
+    alloc: Global,
+    roll: &[(Code, u32)],
+) -> Result<(Vec<Code>, Vec<u32>), AllocError>
+    ensures { IfOk result (λ v. ArePostedSupervisors roll.now v.0.items v.1.items) }
+{
+    let mut codes = Vec::with_capacity(alloc, roll.len())?;
+    let mut quotas = Vec::with_capacity(alloc, roll.len())?;
+    for l in 0..roll.len() {
+        codes.push(roll[l].0.copy())?;
+        quotas.push(roll[l].1)?;
+    }
+    Ok((codes, quotas))
+}
+
+/// Returns the codes of projects, and of each the position of its supervisor and the quota.
+fn post_projects(
+    alloc: Global,
+    supervisors: &[(Code, u32)],
+    roll: &[(Code, Code, u32)],
+) -> Result<(Vec<Code>, Vec<(usize, u32)>), AllocError>
+    requires roll { IsRoll (map (λ e. e.0) supervisors.now) }
+    requires known { All (λ e. Contains (map (λ e. e.0) supervisors.now) e.1) roll.now }
+    ensures { IfOk result (λ v. ArePostedProjects (map (λ e. e.0) supervisors.now) roll.now v.0.items v.1.items) }
+{
+    let mut codes = Vec::with_capacity(alloc, roll.len())?;
+    let mut offers = Vec::with_capacity(alloc, roll.len())?;
+    for p in 0..roll.len() {
+        codes.push(roll[p].0.copy())?;
+        offers.push((owner_of(supervisors, &roll[p].1), roll[p].2))?;
+    }
+    Ok((codes, offers))
+}
+
+/// Returns the codes of students, and of each the position of what is assigned or none.
+fn post_students(
+    alloc: Global,
+    projects: &[(Code, Code, u32)],
+    roll: &[(Code, Vec<Code>)],
+) -> Result<(Vec<Code>, Vec<Option<usize>>), AllocError>
+    requires roll { IsRoll (map (λ e. e.0) projects.now) }
+    requires lists { All (λ e. IsListOf Public (map (λ e. e.0) projects.now) e.1.items) roll.now }
+    ensures { IfOk result (λ v. ArePostedStudents (map (λ e. e.0) projects.now) (map (λ e. (e.0, e.1.items)) roll.now) v.0.items v.1.items) }
+{
+    let mut codes = Vec::with_capacity(alloc, roll.len())?;
+    let mut told = Vec::with_capacity(alloc, roll.len())?;
+    for s in 0..roll.len() {
+        codes.push(roll[s].0.copy())?;
+        told.push(told_of(projects, &roll[s].1))?;
+    }
+    Ok((codes, told))
 }
 
 impl PublicParts {
-    /// Creates the parts of a text of which no line was read.
-    pub(crate) fn new(alloc: Global) -> Self
-        ensures draft { IsPublicDraft result }
-        ensures none { public_lines (rows_of_parts result) ≡ [] }
-    {
-        PublicParts {
-            aim: Aim::Greedy,
-            supervisors: Vec::new(alloc),
-            projects: Vec::new(alloc),
-            students: Vec::new(alloc),
-            posted: Posted {
-                supervisors: Vec::new(alloc),
-                projects: Vec::new(alloc),
-                students: Vec::new(alloc),
-                project_prices: Vec::new(alloc),
-                supervisor_prices: Vec::new(alloc),
-            },
-        }
-    }
-
-    /// Whether no price was read.
-    fn has_no_prices(&self) -> bool
-        ensures { IsTrue result ↔ HasTurn Students self.now }
-    {
-        self.posted.project_prices.is_empty() && self.posted.supervisor_prices.is_empty()
-    }
-
-    /// Whether no student and no price was read.
-    fn has_no_students(&self) -> bool
-        ensures { IsTrue result ↔ HasTurn Projects self.now }
-    {
-        self.students.is_empty() && self.has_no_prices()
-    }
-
-    /// Whether no project, no student and no price was read.
-    fn has_no_projects(&self) -> bool
-        ensures { IsTrue result ↔ HasTurn Supervisors self.now }
-    {
-        self.projects.is_empty() && self.has_no_students()
-    }
-
-    /// Whether a line of a section may come.
-    fn has_turn(&self, section: PublicSection) -> bool
-        ensures { IsTrue result ↔ HasTurn section self.now }
-    {
-        match section {
-            PublicSection::SupervisorPrices => true,
-            PublicSection::ProjectPrices => self.posted.supervisor_prices.is_empty(),
-            PublicSection::Students => self.has_no_prices(),
-            PublicSection::Projects => self.has_no_students(),
-            PublicSection::Supervisors => self.has_no_projects(),
-            PublicSection::Aims => self.supervisors.is_empty() && self.has_no_projects(),
-        }
-    }
-
-    /// Makes the aim generous, if the fields say so and none before did.
-    fn add_aim(&mut self, fields: &[&[u8]]) -> bool
-        requires draft { IsPublicDraft self.old }
-        requires turn { HasTurn Aims self.old }
-        ensures { AddsRow Aims self.old (map (λ f. f.now) fields.now) self.new result }
-    {
-        let [name] = fields else {
-            return false;
-        };
-        if self.aim != Aim::Greedy {
-            return false;
-        }
-        if *name != "generous".as_bytes() {
-            return false;
-        }
-        self.aim = Aim::Generous;
-        true
-    }
-
-    /// Adds a supervisor, if the fields are of the next.
-    fn add_supervisor(&mut self, fields: &[&[u8]]) -> Result<bool, AllocError>
-        requires draft { IsPublicDraft self.old }
-        requires turn { HasTurn Supervisors self.old }
-        ensures { IfOk result (λ b. AddsRow Supervisors self.old (map (λ f. f.now) fields.now) self.new b) }
-    {
-        let [code, quota] = fields else {
-            return Ok(false);
-        };
-        let Some(code) = next_code(&self.supervisors, MAX_SUPERVISORS, code) else {
-            return Ok(false);
-        };
-        let Some(quota) = read_quota(quota) else {
-            return Ok(false);
-        };
-        self.supervisors.push(code)?;
-        self.posted.supervisors.push(quota)?;
-        Ok(true)
-    }
-
-    /// Adds a project, if the fields are of the next.
-    fn add_project(&mut self, fields: &[&[u8]]) -> Result<bool, AllocError>
-        requires draft { IsPublicDraft self.old }
-        requires turn { HasTurn Projects self.old }
-        ensures { IfOk result (λ b. AddsRow Projects self.old (map (λ f. f.now) fields.now) self.new b) }
-    {
-        let [code, supervisor, quota] = fields else {
-            return Ok(false);
-        };
-        let Some(code) = next_code(&self.projects, MAX_PROJECTS, code) else {
-            return Ok(false);
-        };
-        let Some(quota) = read_quota(quota) else {
-            return Ok(false);
-        };
-        let Some(owner) = position_at(&self.supervisors, supervisor, 0) else {
-            return Ok(false);
-        };
-        self.projects.push(code)?;
-        self.posted.projects.push((owner, quota))?;
-        Ok(true)
-    }
-
-    /// Adds what a student is assigned, if the fields are of the next.
-    fn add_student(&mut self, fields: &[&[u8]]) -> Result<bool, AllocError>
-        requires draft { IsPublicDraft self.old }
-        requires turn { HasTurn Students self.old }
-        ensures { IfOk result (λ b. AddsRow Students self.old (map (λ f. f.now) fields.now) self.new b) }
-    {
-        let Some((code, told)) = fields.split_first() else {
-            return Ok(false);
-        };
-        let Some(code) = next_code(&self.students, MAX_STUDENTS, code) else {
-            return Ok(false);
-        };
-        let Some(told) = read_told(&self.projects, told) else {
-            return Ok(false);
-        };
-        self.students.push(code)?;
-        self.posted.students.push(told)?;
-        Ok(true)
-    }
-
-    /// Adds the price of a project, if the fields are of the next.
-    fn add_project_price(&mut self, fields: &[&[u8]]) -> Result<bool, AllocError>
-        requires draft { IsPublicDraft self.old }
-        requires turn { HasTurn ProjectPrices self.old }
-        ensures { IfOk result (λ b. AddsRow ProjectPrices self.old (map (λ f. f.now) fields.now) self.new b) }
-    {
-        let prices = &mut self.posted.project_prices;
-        add_cost(prices, &self.projects, MAX_PROJECTS, fields)
-    }
-
-    /// Adds the price of a supervisor, if the fields are of the next.
-    fn add_supervisor_price(&mut self, fields: &[&[u8]]) -> Result<bool, AllocError>
-        requires draft { IsPublicDraft self.old }
-        ensures { IfOk result (λ b. AddsRow SupervisorPrices self.old (map (λ f. f.now) fields.now) self.new b) }
-    {
-        let prices = &mut self.posted.supervisor_prices;
-        add_cost(prices, &self.supervisors, MAX_SUPERVISORS, fields)
-    }
-
-    /// Adds what a row of a section stands for, if it comes next there.
-    fn add_to(&mut self, section: PublicSection, row: &[&[u8]]) -> Result<bool, AllocError>
-        requires draft { IsPublicDraft self.old }
-        requires turn { HasTurn section self.old }
-        ensures { IfOk result (λ b. AddsRow section self.old (map (λ f. f.now) row.now) self.new b) }
-    {
-        match section {
-            PublicSection::Aims => Ok(self.add_aim(row)),
-            PublicSection::Supervisors => self.add_supervisor(row),
-            PublicSection::Projects => self.add_project(row),
-            PublicSection::Students => self.add_student(row),
-            PublicSection::ProjectPrices => self.add_project_price(row),
-            PublicSection::SupervisorPrices => self.add_supervisor_price(row),
-        }
-    }
-
-    /// Adds what a line's fields stand for, if they may come here.
-    fn add(&mut self, fields: &[&[u8]]) -> Result<bool, AllocError>
-        requires draft { IsPublicDraft self.old }
-        requires fields { All IsField (map (λ f. f.now) fields.now) }
-        ensures { IfOk result (λ b. AddsPublicLine self.old (line_of (map (λ f. f.now) fields.now)) self.new b) }
-    {
-        let Some((letter, row)) = fields.split_first() else {
-            return Ok(false);
-        };
-        let Some(section) = public_section_of(letter) else {
-            return Ok(false);
-        };
-        if !self.has_turn(section) {
-            return Ok(false);
-        }
-        self.add_to(section, row)
-    }
-
-    /// Adds what a line stands for, if it may come here.
-    pub(crate) fn add_line(&mut self, alloc: Global, line: &[u8]) -> Result<bool, AllocError>
-        requires { IsPublicDraft self.old }
-        ensures { IfOk result (λ b. AddsPublicLine self.old line.now self.new b) }
-    {
-        let fields = pieces(alloc, line, b',', COMPONENTS + 2)?;
-        self.add(&fields)
-    }
-
-    /// Returns the parts that were read: what has no line has a price of zero.
-    pub(crate) fn finish(self) -> Result<PublicParts, AllocError>
-        requires { IsPublicDraft self }
+    /// Returns the parts of a result that were read: what has no line has a price of zero.
+    pub(crate) fn of(alloc: Global, draft: PartialRound) -> Result<PublicParts, AllocError>
+        requires { IsDraft Public (draft_of draft) }
         ensures parts { IfOk result (λ r. IsPublicParts r) }
-        ensures lines { IfOk result (λ r. public_lines (rows_of_parts r) ≡ public_lines (rows_of_parts self)) }
+        ensures lines { IfOk result (λ r. lines_of Public (public_read r) ≡ lines_of Public (draft_of draft)) }
     {
-        let mut parts = self;
-        fill(&mut parts.posted.project_prices, parts.projects.len())?;
-        fill(&mut parts.posted.supervisor_prices, parts.supervisors.len())?;
-        Ok(parts)
+        let (supervisors, quotas) = post_supervisors(alloc, &draft.supervisors)?;
+        let (projects, offers) = post_projects(alloc, &draft.supervisors, &draft.projects)?;
+        let (students, told) = post_students(alloc, &draft.projects, &draft.students)?;
+        let prices = draft.prices;
+        let mut project_prices = prices.projects;
+        fill(&mut project_prices, projects.len(), [0; COMPONENTS])?;
+        let mut supervisor_prices = prices.supervisors;
+        fill(&mut supervisor_prices, supervisors.len(), [0; COMPONENTS])?;
+        Ok(PublicParts {
+            aim: draft.aim,
+            supervisors,
+            projects,
+            students,
+            posted: Posted {
+                supervisors: quotas,
+                projects: offers,
+                students: told,
+                project_prices,
+                supervisor_prices,
+            },
+        })
     }
 }

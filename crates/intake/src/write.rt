@@ -12,9 +12,12 @@ ghost use Rattle.verdict.specs.Verdict.{HasShape};
 ghost use Rattle.intake.specs.declared.TheConstants.{MAX_BYTES};
 ghost use Rattle.intake.specs.Parts.{Rise, IsRoundParts};
 ghost use Rattle.intake.specs.Lines.{Section, aim_rows, supervisor_row, project_row, student_row, pair_rows, price_rows, sections, section_lines, ended, instance_text, round_text};
+ghost use Rattle.intake.specs.declared.section.Kind.TheVariants.{Round};
 ghost use Rattle.intake.specs.View.{proved, written};
 
+use crate::draft::has_line;
 use crate::lines::{push_pair, push_price, push_project, push_student, push_supervisor};
+use crate::section::Kind;
 use spa::{Aim, COMPONENTS, Code, Instance, Matching};
 use std::alloc::{AllocError, Global};
 use verdict::Prices;
@@ -73,6 +76,7 @@ fn write_students(out: &mut String, instance: &Instance) -> Result<(), AllocErro
     for s in 0..codes.len() {
         push_student(
             out,
+            "C",
             codes[s].as_str(),
             instance.project_codes(),
             instance.list(s),
@@ -102,18 +106,21 @@ fn write_pairs(
 }
 
 /// Appends the lines of the prices of a roll.
-fn write_prices(
+pub(crate) fn write_prices(
     out: &mut String,
+    kind: Kind,
     letter: &str,
     roll: &[Code],
     prices: &[[i64; COMPONENTS]],
 ) -> Result<(), AllocError>
     requires { length prices.now ≡ length roll.now }
-    ensures text { OnOk result (string_bytes out.new ≡ string_bytes out.old ++ ended (section_lines (record { letter = letter.now; rows = price_rows roll.now prices.now }))) }
+    ensures text { OnOk result (string_bytes out.new ≡ string_bytes out.old ++ ended (section_lines (record { letter = letter.now; rows = price_rows kind roll.now prices.now }))) }
     ensures numbers { OnOk result (All (λ v. length v ≡ COMPONENTS) prices.now) }
 {
     for n in 0..prices.len() {
-        push_price(out, letter, roll[n].as_str(), &prices[n])?;
+        if has_line(kind, &prices[n]) {
+            push_price(out, letter, roll[n].as_str(), &prices[n])?;
+        }
     }
     Ok(())
 }
@@ -146,16 +153,23 @@ fn write_proof(
 ) -> Result<(), AllocError>
     requires places { HasPlaces instance.now.shape matching.now.places.items }
     requires shape { HasShape instance.now.shape prices.now }
-    ensures text { OnOk result ((aim : Aim) → string_bytes out.new ≡ string_bytes out.old ++ ended (flat_map section_lines (drop 4 (sections (proved instance.now aim matching.now.places.items prices.now))))) }
+    ensures text { OnOk result ((aim : Aim) → string_bytes out.new ≡ string_bytes out.old ++ ended (flat_map section_lines (drop 4 (sections Round (proved instance.now aim matching.now.places.items prices.now))))) }
     ensures students { OnOk result (All (λ v. length v ≡ COMPONENTS) prices.now.students.items) }
     ensures projects { OnOk result (All (λ v. length v ≡ COMPONENTS) prices.now.projects.items) }
     ensures supervisors { OnOk result (All (λ v. length v ≡ COMPONENTS) prices.now.supervisors.items) }
 {
+    let kind = Kind::Round;
     instance.fit();
     write_pairs(out, instance, &matching.places)?;
-    write_prices(out, "U", instance.student_codes(), &prices.students)?;
-    write_prices(out, "Y", instance.project_codes(), &prices.projects)?;
-    write_prices(out, "Z", instance.supervisor_codes(), &prices.supervisors)?;
+    write_prices(out, kind, "U", instance.student_codes(), &prices.students)?;
+    write_prices(out, kind, "Y", instance.project_codes(), &prices.projects)?;
+    write_prices(
+        out,
+        kind,
+        "Z",
+        instance.supervisor_codes(),
+        &prices.supervisors,
+    )?;
     Ok(())
 }
 

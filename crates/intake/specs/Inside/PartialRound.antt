@@ -1,10 +1,15 @@
--- The parts of a round text as far as it was read.
-use Rattle.std.specs.Prelude.{◌≡◌, false, ◌==◌, ℕ, ◌≤◌, ◌⊎◌, ℤ, List, [], ◌∷◌, length, map, Option, IsSome, All, ⊤}
+-- The parts of a text as far as it was read.
+use Rattle.std.specs.Prelude.{◌≡◌, true, false, ◌==◌, ℕ, ◌≤◌, ◌⊎◌, ℤ, List, [], ◌∷◌, length, map, Option, IsSome, All, Result, Ok, Err, ⊤}
 use Rattle.spa.specs.declared.aim.Aim.TheVariants.{Greedy}
 use Rattle.spa.specs.Instance.{Student, given}
 use Rattle.intake.specs.declared.draft.PartialRound.{PartialRound}
-use Rattle.intake.specs.Parts.{Parts, IsRoundInstance, IsPlace, IsPrice}
-use Rattle.intake.specs.Lines.{Priced, priced}
+use Rattle.intake.specs.declared.section.Kind.{Kind}
+use Rattle.intake.specs.declared.section.Kind.TheVariants.{Round, Public}
+use Rattle.intake.specs.Parts.{Parts, IsInstance, IsPlace, ArePricesUpTo}
+use Rattle.intake.specs.declared.TheConstants.{MAX_BYTES}
+use Rattle.intake.specs.declared.round.RoundFault.{RoundFault}
+use Rattle.intake.specs.Lines.{Priced, has_line, priced, text_of}
+use Rattle.intake.specs.Reading.{IsFaultOf}
 
 -- the parts that were read
 abbrev pub draft_of : PartialRound → Parts
@@ -23,20 +28,29 @@ ArePlaces es [] = ⊤
 ArePlaces [] (k ∷ ks) = ⊥
 ArePlaces (e ∷ es) (k ∷ ks) = IsPlace e k × ArePlaces es ks
 
--- no places, or the last is one
-abbrev pub EndsPlaced : List (Option ℕ) → Type 0
-EndsPlaced [] = ⊤
-EndsPlaced (k ∷ []) = IsSome k
-EndsPlaced (k ∷ l ∷ ks) = EndsPlaced (l ∷ ks)
+-- a list is empty, or its last element is so
+abbrev pub Ends : {X : Type 0} → (X → Type 0) → List X → Type 0
+Ends P [] = ⊤
+Ends P (x ∷ []) = P x
+Ends P (x ∷ y ∷ xs) = Ends P (y ∷ xs)
 
--- prices of the first of n entries
-pub record ArePricesUpTo (n : ℕ) (vs : List (List ℤ)) : Type 0 where
-  pub few : length vs ≤ n
-  pub prices : All IsPrice vs
+-- a price has a line
+abbrev pub HasLine : Kind → List ℤ → Type 0
+HasLine k v = has_line k v ≡ true
+
+-- prices of the first of n entries, the last with a line
+pub record AreFirstPrices (k : Kind) (n : ℕ) (vs : List (List ℤ)) : Type 0 where
+  pub prices : ArePricesUpTo n vs
+  pub last : Ends (HasLine k) vs
 
 -- no price, or one for each of n entries
 abbrev pub NoneOrAll : ℕ → List (List ℤ) → Type 0
 NoneOrAll n vs = (length vs ≡ 0) ⊎ (length vs ≡ n)
+
+-- prices of n entries after which those of the next roll may come
+abbrev pub IsCompleted : Kind → ℕ → List (List ℤ) → Type 0
+IsCompleted Round n vs = NoneOrAll n vs
+IsCompleted Public n vs = ⊤
 
 -- no price of the rolls was read
 abbrev pub AreUnpriced : List Priced → Type 0
@@ -44,25 +58,31 @@ AreUnpriced [] = ⊤
 AreUnpriced (s ∷ ss) = (s.prices ≡ []) × AreUnpriced ss
 
 -- the prices of each roll are complete
-abbrev pub AreComplete : List Priced → Type 0
-AreComplete [] = ⊤
-AreComplete (s ∷ ss) = NoneOrAll (length s.codes) s.prices × AreComplete ss
+abbrev pub AreComplete : Kind → List Priced → Type 0
+AreComplete k [] = ⊤
+AreComplete k (s ∷ ss) = IsCompleted k (length s.codes) s.prices × AreComplete k ss
 
 -- the prices of each roll are those of its first entries, and complete where prices of a later roll were read
-abbrev pub ArePricedInOrder : List Priced → Type 0
-ArePricedInOrder [] = ⊤
-ArePricedInOrder (s ∷ ss) = ArePricesUpTo (length s.codes) s.prices × (AreUnpriced ss ⊎ NoneOrAll (length s.codes) s.prices) × ArePricedInOrder ss
+abbrev pub ArePricedInOrder : Kind → List Priced → Type 0
+ArePricedInOrder k [] = ⊤
+ArePricedInOrder k (s ∷ ss) = AreFirstPrices k (length s.codes) s.prices × (AreUnpriced ss ⊎ IsCompleted k (length s.codes) s.prices) × ArePricedInOrder k ss
+
+-- no student of a result has a place or a price
+abbrev pub IsBare : Kind → List (Option ℕ) → List (List ℤ) → Type 0
+IsBare Round places prices = ⊤
+IsBare Public places prices = (places ≡ []) × (prices ≡ [])
 
 -- parts that more lines may complete
-pub record IsDraft (p : Parts) : Type 0 where
-  pub instance : IsRoundInstance p.instance
+pub record IsDraft (k : Kind) (p : Parts) : Type 0 where
+  pub instance : IsInstance k p.instance
   pub places : ArePlaces p.instance.students p.places
-  pub last_place : EndsPlaced p.places
-  pub prices : ArePricedInOrder (priced p)
+  pub last_place : Ends IsSome p.places
+  pub prices : ArePricedInOrder k (priced p)
+  pub bare : IsBare k p.places p.student_prices
 
 -- a text may end here
-abbrev pub IsWhole : Parts → Type 0
-IsWhole p = AreComplete (priced p)
+abbrev pub IsWhole : Kind → Parts → Type 0
+IsWhole k p = AreComplete k (priced p)
 
 -- no price was read
 abbrev pub HasNoPrices : Parts → Type 0
@@ -86,3 +106,8 @@ IsFree c text = All (λ b. (b == c) ≡ false) text
 -- a field has no comma in it
 abbrev pub IsField : List ℕ → Type 0
 IsField f = IsFree 44 f
+
+-- the text is that of a draft that may end here, or the fault is its own
+abbrev pub IsDraftReading : Kind → List ℕ → Result PartialRound RoundFault → Type 0
+IsDraftReading k text (Ok d) = IsDraft k (draft_of d) × IsWhole k (draft_of d) × (text ≡ text_of k (draft_of d)) × (length text ≤ MAX_BYTES)
+IsDraftReading k text (Err fault) = IsFaultOf k text fault

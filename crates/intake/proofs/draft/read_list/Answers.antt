@@ -10,7 +10,7 @@ returns-in_default c = λ sound.
     let fs : List (List ℕ) = map (λ f. f.now) c.args.fields.now in
     let k : ℕ = c.loop-field.field-index in
     let at = field_at c.args.fields.now k c.loop-field-test.true in
-    unknown_code (map (λ e. e.0) c.args.projects.now) fs (length c.args.projects.now) k (get_or c.args.fields.now k blank).now (sym (length-map c.args.projects.now (λ e. e.0))) sound at.0 at.1 c.in_default.ensures
+    unknown_code c.args.kind (map (λ e. e.0) c.args.projects.now) fs (length c.args.projects.now) k (get_or c.args.fields.now k blank).now (sym (length-map c.args.projects.now (λ e. e.0))) sound at.0 at.1 c.in_default.ensures
 
 pub returns-then-contains : goal.returns-then-contains
 returns-then-contains c = λ sound.
@@ -25,7 +25,7 @@ returns-then-contains c = λ sound.
     let same = eqb-true _ _ (tests.cases.2 0) in
     let here : slice_get seen tests.cases.0 ≡ Some code =
     at_position codes c.loop-field.positions.items seen tests.cases.0 inv.placed tests.cases.1 ∙ ap (slice_get codes) same ∙ c.in-Some.ensures.1 in
-    repeated_code codes fs seen k tests.cases.0 code sound at.0 at.1 inv.read (within_get seen tests.cases.0 code here, here)
+    repeated_code c.args.kind codes fs seen k tests.cases.0 code sound at.0 at.1 inv.read (within_get seen tests.cases.0 code here, here)
 
 pub loop-field-preserved : goal.loop-field-preserved
 loop-field-preserved c =

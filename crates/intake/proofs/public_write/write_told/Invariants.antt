@@ -1,5 +1,5 @@
 use Rattle.std.proofs.Common.{◌≡◌, ◌++◌, drop, string_bytes}
-use Rattle.intake.proofs.PublicText.{told_text}
+use Rattle.intake.proofs.RestOfText.{told_text}
 use Rattle.intake.proofs.public_write.write_told.Given as goal
 
 abbrev pub invariant-loop-s : goal.invariant-loop-s

@@ -8,29 +8,29 @@ use Rattle.intake.proofs.PairLine.{refers, nowhere, one_place, student_at, liste
 use Rattle.intake.proofs.draft.PartialRound.add_pair.Goals as goal
 
 pub position_at-requires : goal.position_at-requires
-position_at-requires c = subst IsRoll (student_keys c.args.self.now.students.items ∙ ap (map (λ e. e.0)) (sym c.deref.ensures.value)) c.requires.instance.students
+position_at-requires c = subst IsRoll (student_keys c.args.self.now.students.items ∙ ap (map (λ e. e.0)) (sym c.deref.ensures.value)) c.requires.students
 
 pub returns-in_default-position_at : goal.returns-in_default-position_at
 returns-in_default-position_at c = λ e t.
-    let r = refers _ _ e.0 e.1 _ _ c.requires t (two_fields c.args.fields.now c.in-len2.len_at_least c.in-len2.len_below) in
+    let r = refers _ _ e.0 e.1 _ _ t (two_fields c.args.fields.now c.in-len2.len_at_least c.in-len2.len_below) in
     let keys = student_keys c.args.self.now.students.items ∙ ap (map (λ e. e.0)) (sym c.deref.ensures.value) in
     nowhere (map (λ e. e.0) c.deref.result.now) (length c.deref.result.now) e.0 (get_or c.args.fields.now 0 blank).now _ (sym (length-map c.deref.result.now (λ e. e.0))) refl
     c.in_default-position_at.ensures (ap (λ (l : List (List ℕ)). slice_get l e.0) (sym keys) ∙ r.code)
 
 pub returns-then-position-len : goal.returns-then-position-len
 returns-then-position-len c = λ e t.
-    let r = refers _ _ e.0 e.1 _ _ c.requires t (two_fields c.args.fields.now c.in-len2.len_at_least c.in-len2.len_below) in
+    let r = refers _ _ e.0 e.1 _ _ t (two_fields c.args.fields.now c.in-len2.len_at_least c.in-len2.len_below) in
     let keys = student_keys c.args.self.now.students.items ∙ ap (map (λ e. e.0)) (sym c.deref.ensures.value) in
-    let same : c.in-Some.position ≡ e.0 = one_place _ c.in-Some.position e.0 _ c.requires.instance.students.rise
+    let same : c.in-Some.position ≡ e.0 = one_place _ c.in-Some.position e.0 _ c.requires.students.rise
     (ap (λ (l : List (List ℕ)). slice_get l c.in-Some.position) keys ∙ c.in-Some.ensures.1) r.code in
     let many : c.len.result ≡ length c.args.self.now.places.items = search (rules) in
     omega (arith, t.later, c.if-position-len.true)
 
 pub returns-in_default-position_in : goal.returns-in_default-position_in
 returns-in_default-position_in c = λ e t.
-    let r = refers _ _ e.0 e.1 _ _ c.requires t (two_fields c.args.fields.now c.in-len2.len_at_least c.in-len2.len_below) in
+    let r = refers _ _ e.0 e.1 _ _ t (two_fields c.args.fields.now c.in-len2.len_at_least c.in-len2.len_below) in
     let keys = student_keys c.args.self.now.students.items ∙ ap (map (λ e. e.0)) (sym c.deref.ensures.value) in
-    let same : c.in-Some.position ≡ e.0 = one_place _ c.in-Some.position e.0 _ c.requires.instance.students.rise
+    let same : c.in-Some.position ≡ e.0 = one_place _ c.in-Some.position e.0 _ c.requires.students.rise
     (ap (λ (l : List (List ℕ)). slice_get l c.in-Some.position) keys ∙ c.in-Some.ensures.1) r.code in
     let within : c.in-Some.position < length c.args.self.now.students.items = omega (arith, c.in-Some.ensures.0, ap length c.deref.ensures.value) in
     let list = listed_at c.args.self.now.students.items c.in-Some.position e.0 c.index.result.now t.student within c.index.ensures same t.here in
@@ -38,10 +38,10 @@ returns-in_default-position_in c = λ e t.
     c.in_default-position_in.ensures (ap (λ (l : List (List ℕ)). slice_get l (e.1 - 1)) (c.deref-2.ensures.value ∙ sym list) ∙ r.place)
 
 pub overflow_cast-place : goal.overflow_cast-place
-overflow_cast-place c = omega (arith, small_place _ c.args.self.now.students.items c.in-Some.position c.in-Some-position_in.before c.index.result.now c.requires refl c.in-Some.ensures.0 (ap length c.deref.ensures.value) c.index.ensures c.in-Some-position_in.ensures.0 (ap length c.deref-2.ensures.value))
+overflow_cast-place c = omega (arith, small_place _ c.args.self.now.students.items c.in-Some.position c.in-Some-position_in.before c.index.result.now c.requires.lists refl c.in-Some.ensures.0 (ap length c.deref.ensures.value) c.index.ensures c.in-Some-position_in.ensures.0 (ap length c.deref-2.ensures.value))
 
 pub overflow_add-place : goal.overflow_add-place
-overflow_add-place c = omega (arith, small_place _ c.args.self.now.students.items c.in-Some.position c.in-Some-position_in.before c.index.result.now c.requires refl c.in-Some.ensures.0 (ap length c.deref.ensures.value) c.index.ensures c.in-Some-position_in.ensures.0 (ap length c.deref-2.ensures.value))
+overflow_add-place c = omega (arith, small_place _ c.args.self.now.students.items c.in-Some.position c.in-Some-position_in.before c.index.result.now c.requires.lists refl c.in-Some.ensures.0 (ap length c.deref.ensures.value) c.index.ensures c.in-Some-position_in.ensures.0 (ap length c.deref-2.ensures.value))
 
 pub returns : goal.returns
 returns c =

@@ -8,14 +8,14 @@ use Rattle.intake.proofs.Rolls.{project_keys, supervisor_keys, comes_moved, cont
 use Rattle.intake.proofs.draft.PartialRound.add_project.Goals as goal
 
 pub next_code-requires : goal.next_code-requires
-next_code-requires c = subst Rise (project_keys c.args.self.now.projects.items ∙ ap (map (λ e. e.0)) (sym c.deref.ensures.value)) c.requires.instance.projects.rise
+next_code-requires c = subst Rise (project_keys c.args.self.now.projects.items ∙ ap (map (λ e. e.0)) (sym c.deref.ensures.value)) c.requires.projects.rise
 
 pub returns-in_default-next_code : goal.returns-in_default-next_code
 returns-in_default-next_code c = λ e t.
     c.in_default-next_code.ensures (comes_moved _ _ _ _ _ (project_keys c.args.self.now.projects.items ∙ ap (map (λ e. e.0)) (sym c.deref.ensures.value)) (first_field _ _ _ _ (sym t.is ∙ three_fields c.args.fields.now c.in-len3.len_at_least c.in-len3.len_below)) t.code)
 
 pub position_at-requires : goal.position_at-requires
-position_at-requires c = subst IsRoll (supervisor_keys c.args.self.now.supervisors.items ∙ ap (map (λ e. e.0)) (sym c.deref-2.ensures.value)) c.requires.instance.supervisors
+position_at-requires c = subst IsRoll (supervisor_keys c.args.self.now.supervisors.items ∙ ap (map (λ e. e.0)) (sym c.deref-2.ensures.value)) c.requires.supervisors
 
 pub returns-in_default-position_at : goal.returns-in_default-position_at
 returns-in_default-position_at c = λ e t.

@@ -9,7 +9,7 @@ pub returns-in_default : goal.returns-in_default
 returns-in_default c = λ e t. absurd (omega (arith, ap length t.is, length-map c.args.fields.now (λ (f : Bor (List ℕ)). f.now), c.in_default.len_below))
 
 pub next_code-requires : goal.next_code-requires
-next_code-requires c = subst Rise (supervisor_keys c.args.self.now.supervisors.items ∙ ap (map (λ e. e.0)) (sym c.deref.ensures.value)) c.requires.instance.supervisors.rise
+next_code-requires c = subst Rise (supervisor_keys c.args.self.now.supervisors.items ∙ ap (map (λ e. e.0)) (sym c.deref.ensures.value)) c.requires.rise
 
 pub returns-in_default-next_code : goal.returns-in_default-next_code
 returns-in_default-next_code c = λ e t.

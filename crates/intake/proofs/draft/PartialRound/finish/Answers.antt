@@ -1,7 +1,8 @@
 use Rattle.std.proofs.Common.{◌≡◌, ℕ, ◌++◌, ◌-◌, length, replicate, None, sym, ap, subst, ◌∙◌, arith, rules}
-use Rattle.intake.proofs.Common.{IsRoundParts, round_lines, draft_of}
+use Rattle.intake.proofs.Common.{IsRoundParts, Round, lines_of, draft_of}
 use Rattle.intake.proofs.Rolls.{student_count}
-use Rattle.intake.proofs.Ends.{whole_parts, places_few, no_fault, placed_lines, same_parts}
+use Rattle.intake.proofs.Ends.{whole_parts, no_fault, placed_lines, same_parts}
+use Rattle.intake.proofs.Takes.{places_few}
 use Rattle.intake.proofs.draft.PartialRound.finish.Goals as goal
 
 pub fill-requires : goal.fill-requires
@@ -22,4 +23,4 @@ pub returns-in-Ok-clause-lines : goal.returns-in-Ok-clause-lines
 returns-in-Ok-clause-lines c =
     let len : c.len.result ≡ length c.args.self.students.items = search (rules) in
     let full = c.in_ok-fill.ensures ∙ ap (λ (n : ℕ). c.args.self.places.items ++ replicate (n - length c.args.self.places.items) None) (len ∙ sym (student_count c.args.self.students.items)) in
-    ap round_lines (same_parts _ _ _ _ _ _ _ _ c.in-Ok.ensures.made full) ∙ placed_lines (draft_of c.args.self)
+    ap (lines_of Round) (same_parts _ _ _ _ _ _ _ _ c.in-Ok.ensures.made full) ∙ placed_lines (draft_of c.args.self)
