@@ -22,9 +22,7 @@ pub use Rattle.std.specs.Prelude.{⊤}
 pub use Rattle.std.specs.declared.alloc.Global.{Global}
 pub use Rattle.store.specs.Tables.{HasNone, Opens}
 pub use Rattle.web.proofs.OneMessage.{gets_at, office_seen}
-pub use Rattle.web.specs.Connections.{AllServed, Connect, lines_after}
+pub use Rattle.web.specs.Connections.{AllServed, Connect, SomeServed, Visit, lines_after}
 pub use Rattle.web.specs.Serving.{AnswersFrom, AnswersMessage, AnswersOffice, AtDesk, at_desk, end_text, just_opened}
 pub use Rattle.wire.specs.Run.{MessageText}
-pub use Rattle.wire.specs.declared.outcome.Served.{Served}
-pub use Rattle.wire.specs.declared.outcome.StreamFault.{StreamFault}
 pub use Rattle.world.specs.WorldState.{Found, IsPeer, IsReadOf, Peer, PortState, Within, WorldState, some_port}

@@ -1,10 +1,10 @@
 -- What is printed of an import is an outcome of its line.
-use Rattle.std.proofs.Common.{◌≡◌, inl, inr, ℕ, List, Result, Ok, Err, IfOk, IfErr, MatchResult, Vec, ap, ◌∙◌, sym, subst}
-use Rattle.cli.proofs.Common.{Global, Refusal, Request, Found, IsReadOf, IsImportLine, ImportsFile, IsUnreadFile, MayDoAt, Outcome, refused, IsImportOf, IsImportOfFile, IsUnreadOf}
+use Rattle.std.proofs.Common.{◌≡◌, inl, inr, ℕ, List, Result, Ok, Err, IfOk, IfErr, MatchResult, Vec, ap, ◌∙◌, subst}
+use Rattle.cli.proofs.Common.{Global, Refusal, Request, Found, IsReadOf, IsImportLine, ImportsFile, MayDoAt, Outcome, refused, IsImportOf, IsImportOfFile, IsUnreadOf}
 use Rattle.rolls.specs.declared.import.ImportKind.{ImportKind}
 use Rattle.cli.specs.declared.tasks.Task.TheVariants as task
 use Rattle.rolls.specs.declared.TheConstants.{MAX_IMPORT_BYTES}
-use Rattle.cli.proofs.Writers.{unread}
+use Rattle.cli.proofs.Writers.{of_any_file}
 
 -- the request of what was read of a file
 pub of_read : (holds : Found → Type 0) (id : List ℕ) (kind : ImportKind) (read : Result (Vec ℕ Global) Refusal) (made : Result Request Refusal)
@@ -26,4 +26,4 @@ pub imports_file : (holds : Found → Type 0) (name id : List ℕ) (kind : Impor
 imports_file holds name id kind made o (inl of) is = inr (of.0, imports name id kind of.0 made o of.2 is)
 imports_file holds name id kind made o (inr un) is =
     let printed = subst (λ (m : Result Request Refusal). MatchResult m (λ asked. MayDoAt name (task.Ask asked) o) (λ refusal. o ≡ refused refusal)) un.2 is in
-    inl (subst IsUnreadFile (sym printed) (unread un.0 un.1.2))
+    inl (of_any_file holds o (un.0, un.1, printed))

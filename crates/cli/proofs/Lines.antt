@@ -1,6 +1,6 @@
 -- What was done at a file is an outcome of the task, of the line, and of the words.
-use Rattle.std.proofs.Common.{◌≡◌, ◌⊎◌, inl, inr, ℕ, List, string_bytes, Some, None, Result, Ok, Err, MatchResult, String, refl, sym, subst}
-use Rattle.cli.proofs.Common.{⊤, WorldState, Trouble, Global, over_files, Refusal, Request, LineFault, IsAnswer, Task, Both, ComesTo, ImportsFile, IsUnreadFile, MayCome, MayDo, MayDoAt, OfDatabase, OnFile, Outcome, Prints, refused, AskedAt, Came, CommandAt, DoneAt, IsRefusalOf, IsUnfound, LineAt, WordsAt, Status}
+use Rattle.std.proofs.Common.{◌≡◌, ◌⊎◌, inl, inr, ℕ, List, string_bytes, Some, None, Result, Ok, Err, MatchResult, String, ap, refl, sym, subst}
+use Rattle.cli.proofs.Common.{⊤, WorldState, Trouble, Global, over_files, Refusal, Request, LineFault, IsAnswer, Task, Both, ComesTo, ImportsFile, MayCome, MayDo, MayDoAt, OfDatabase, OnFile, Outcome, Prints, refused, AskedAt, Came, CommandAt, DoneAt, IsRefusalOf, IsUnfound, LineAt, WordsAt, Status}
 use Rattle.sqlite_disk.specs.declared.Disk.{Ghosts}
 use Rattle.sqlite.specs.declared.error.Error.{Error}
 use Rattle.sqlite.specs.declared.error.Error.TheVariants.{SqliteFailure}
@@ -13,7 +13,7 @@ use Rattle.commands.specs.declared.line.Line.TheVariants as line
 use Rattle.cli.specs.declared.tasks.Task.TheVariants as task
 use Rattle.cli.proofs.Imports.{imports_file}
 use Rattle.cli.proofs.Opened.{may_do}
-use Rattle.cli.proofs.Writers.{of_any, prints_more, unread}
+use Rattle.cli.proofs.Writers.{of_any, prints_more}
 
 -- the refusal of a file that cannot be opened
 refused_open : (error : Error) (r : Refusal) → IsRefusalOf error r → (r ≡ no.Memory) ⊎ (r ≡ no.Storage)
@@ -21,9 +21,9 @@ refused_open (SqliteFailure OutOfMemory) r is = inl (is.0 refl)
 refused_open _ r is = inr (is.1 (λ e. cc))
 
 -- a file that cannot be opened is an outcome of its task
-unopened : (done : Task) (o : Outcome) → IsUnreadFile o → MayDo done o
-unopened done o (inl memory) = inl (inl memory)
-unopened done o (inr storage) = inl (inr (inl storage))
+unopened : (done : Task) (r : Refusal) → (r ≡ no.Memory) ⊎ (r ≡ no.Storage) → MayDo done (refused r)
+unopened done r (inl memory) = inl (inl (ap refused memory))
+unopened done r (inr storage) = inl (inr (inl (ap refused storage)))
 
 -- what is printed of a database is printed of one that may be new
 may_be : (name : List ℕ) (IsNew : Type 0) (done : Task) (Is : Outcome → Type 0) → ((o : Outcome) → Is o → MayDo done o) → (o : Outcome) → OfDatabase name IsNew Is o → MayDoAt name done o
@@ -47,7 +47,7 @@ module _ {D : Type 0} {g : Ghosts D} {O E : Type 0} (world : WorldState) where
   done_comes : (name : List ℕ) (done : Task) (came : Came D g) (old new : Both O E) (status : Status) → DoneAt world name done came old new status → Prints (MayDoAt name done) old new status
   done_comes name done (Some came) old new status at =
       prints_more _ (MayDoAt name done) (may_be name _ done _ (λ o is. may_do over_files world.ports done at.first at.last o is)) _ _ _ at.printed
-  done_comes name done None old new status at = prints_more (IsUnfound world name) (MayDoAt name done) (λ o is. inr (unopened done o (subst IsUnreadFile (sym is.4) (unread is.2 (refused_open is.0 is.2 is.3))))) _ _ _ at
+  done_comes name done None old new status at = prints_more (IsUnfound world name) (MayDoAt name done) (λ o is. inr (subst (MayDo done) (sym is.4) (unopened done is.2 (refused_open is.0 is.2 is.3)))) _ _ _ at
 
   asked_comes : (name : List ℕ) (made : Result Request Refusal) (came : Came D g) (old new : Both O E) (status : Status) → AskedAt world name made came old new status
       → Prints (λ o. MatchResult made (λ asked. MayDoAt name (task.Ask asked) o) (λ refusal. o ≡ refused refusal)) old new status

@@ -1,6 +1,6 @@
 -- What comes of a task where its office was opened or the opening refused, and what is left.
-use Rattle.std.proofs.Common.{◌≡◌, ◌⊎◌, arith, inl, inr, ℕ, false, List, Result, sym, subst, ap, ◌∙◌}
-use Rattle.cli.proofs.Common.{Database, IsOpened, file_state, Held, state, Refusal, State, HasNone, Opens, DeskState, IsPeer, Peer, PortState, Within, some_port, Served, StreamFault, MessageText, Connect, AnswersFrom, AnswersOffice, office_seen, Task, ComesOf, IsUnopened, MayDo, Outcome, refused, ComesFrom, DoesOver, IsDone, IsFoundFor, IsOfficeIn, IsOfficeOf, IsWhyUnopened, LeftBy, TakesTo, PrintsOver, WasClean, Status}
+use Rattle.std.proofs.Common.{◌≡◌, ◌⊎◌, arith, inl, inr, ℕ, false, List, sym, subst, ap, ◌∙◌}
+use Rattle.cli.proofs.Common.{Database, IsOpened, file_state, Held, state, Refusal, State, HasNone, Opens, DeskState, IsPeer, Peer, PortState, Within, some_port, Visit, MessageText, Connect, AnswersFrom, AnswersOffice, office_seen, Task, ComesOf, IsUnopened, MayDo, Outcome, refused, ComesFrom, DoesOver, IsDone, IsFoundFor, IsOfficeIn, IsOfficeOf, IsWhyUnopened, LeftBy, TakesTo, PrintsOver, WasClean, Status}
 use Rattle.sqlite.specs.State.{State as Seen, HasCleanDisk}
 use Rattle.sqlite.specs.Start.{FindsIn}
 use Rattle.sqlite_wal.specs.Recovery.{Image}
@@ -47,9 +47,11 @@ module _ {S : Type 0} (ghosts : Ghosts S) (ports : ℕ → PortState) where
   comes_of (task.Serve serving) before after o (inl unbound) = inl (tt, (ap (λ (desk : DeskState S). desk.office) unbound.1.0, unbound.1.1))
   comes_of (task.Serve serving) before after o (inr served) = inr (record {
     came = served.came;
-    counted = served.counted;
+    awaited = served.awaited;
     served = connect_seen (λ desk. desk.office) AnswersOffice (AnswersFrom ghosts) (λ b words bytes a step. office_seen ghosts b words bytes a step) (ports serving.port).peers some_port.peers (λ n. record { comes = λ ends came. tt; leaves = λ ends left. tt }) before after served.came served.served;
-    is = served.is;
+    ends = served.ends;
+    out = served.out;
+    silent = served.silent;
   })
 
   -- what a task at a database comes to is an outcome of the task
@@ -65,7 +67,7 @@ module _ {S : Type 0} (ghosts : Ghosts S) (ports : ℕ → PortState) where
 
 -- who is known to be of these ports came to them
 pub came_within : {D : Type 0} (step : D → MessageText → List ℕ → D → Type 0) (some other : ℕ → Peer) → ((n : ℕ) → IsPeer (some n) (other n)) → (before after : D)
-    (came : List (Result Served StreamFault)) → Connect step some before came after → Connect step other before came after
+    (came : List Visit) → Connect step some before came after → Connect step other before came after
 came_within step some other is before after came served = connect_seen (λ d. d) step step (λ b words bytes n s. s) some other is before after came served
 
 -- so it is of all that is done with ports that were lent
@@ -75,9 +77,11 @@ module _ {S : Type 0} (ghosts : Ghosts S) (lent ports : ℕ → PortState) (with
   comes_within (task.Serve serving) before after o (inl unbound) = inl ((within serving.port).is_taken unbound.0, unbound.1)
   comes_within (task.Serve serving) before after o (inr served) = inr (record {
     came = served.came;
-    counted = served.counted;
+    awaited = served.awaited;
     served = came_within (AnswersFrom ghosts) (lent serving.port).peers (ports serving.port).peers (within serving.port).peers before after served.came served.served;
-    is = served.is;
+    ends = served.ends;
+    out = served.out;
+    silent = served.silent;
   })
 
   takes_within : (done : Task) (before after : DeskState S) → TakesTo ghosts lent done before after → TakesTo ghosts ports done before after

@@ -10,13 +10,19 @@ use Rattle.cli.specs.Outcomes.{Outcome, Prints, prints_err, refused}
 use Rattle.cli.specs.Databases.{Came, WordsAt}
 use Rattle.cli.specs.Anew.{StreamsAnew}
 use Rattle.cli.specs.declared.status.Status.{Status}
-use Rattle.cli.specs.declared.status.Status.TheVariants.{Usage}
+use Rattle.cli.specs.declared.status.Status.TheVariants.{Success, Failure, Usage}
 
 -- the stream was served to standard output alone, and no file was opened
 pub record IsStreamDone {C O E : Type 0} (left0 left : Option (List ℕ)) (came : Option C) (old new : Both O E) (status : Status) : Type 0 where
   pub stream : StreamsAnew left0 old.out.written left new.out.written status
   pub silent : new.err ≡ old.err
   pub no_file : came ≡ None
+
+-- the number by which the system knows a status
+abbrev pub number_of : Status → ℕ
+number_of Success = 0
+number_of Failure = 1
+number_of Usage = 2
 
 -- what is printed where an argument is not UTF-8, as `clap` words a fault of the command
 abbrev pub not_utf8 : Outcome
@@ -38,3 +44,21 @@ module _ {D : Type 0} {g : disk.Ghosts D} {O E R : Type 0} (world : WorldState) 
   -- that is what was done of the words of a world
   abbrev pub IsAllDone : Came D g → Both O E → Both O E → Status → Type 0
   IsAllDone came old new status = (said : Result (List (List ℕ)) ErrorKind) × world.said said × Follows said came old new status
+
+-- All was done that the program does with the world and the streams that a host lent it, these were given back, and this number is that of
+-- the status.
+pub record IsStarted (D : Type 0) (g : disk.Ghosts D) {W R O E : Type 0} (state : W → WorldState) (left : R → Option (List ℕ)) (both : O → E → Both O E)
+    (Lends : W → R → O → E → Type 0) (Takes : R → O → E → Type 0) (number : ℕ) : Type 0 where
+  pub world : W
+  pub reader : R
+  pub out : O
+  pub err : E
+  pub lent : Lends world reader out err
+  pub last_reader : R
+  pub last_out : O
+  pub last_err : E
+  pub taken : Takes last_reader last_out last_err
+  pub came : Came D g
+  pub status : Status
+  pub done : IsAllDone (state world) reader last_reader (left reader) (left last_reader) came (both out err) (both last_out last_err) status
+  pub is : number ≡ number_of status

@@ -1,5 +1,5 @@
 -- What a line does at a database and leaves of it, and what comes of closing the file.
-use Rattle.std.specs.Prelude.{◌≡◌, ◌≢◌, ◌⊎◌, ◌≤◌, ℕ, false, List, string_bytes, Option, Some, None, Result, Ok, Err, IfOk, IfErr, IsTrue}
+use Rattle.std.specs.Prelude.{◌≡◌, ◌≢◌, ◌⊎◌, ◌≤◌, ℕ, false, List, ◌++◌, string_bytes, Option, Some, None, Result, Ok, Err, IfOk, IfErr, IsTrue}
 use Rattle.sqlite_disk.specs.declared.Disk as disk
 use Rattle.sqlite_disk.specs.declared.Files.{Files}
 use Rattle.sqlite_wal.specs.Reads.{AreClean}
@@ -36,11 +36,9 @@ use Rattle.store.specs.declared.edition.Edition.{Edition}
 use Rattle.store.specs.Tables.{HasNone, Opens, StandsIn}
 use Rattle.desk.specs.Keeping.{Keeps}
 use Rattle.desk.specs.DeskState.{DeskState, IsOpened as IsDeskOpened}
-use Rattle.web.specs.Connections.{Connect}
+use Rattle.web.specs.Connections.{Connect, Visit}
 use Rattle.web.specs.Serving.{AnswersFrom, GetsAt}
-use Rattle.wire.specs.declared.outcome.Served.{Served}
 use Rattle.world.specs.WorldState.{PortState, WorldState}
-use Rattle.wire.specs.declared.outcome.StreamFault.{StreamFault}
 use Rattle.round_files.specs.Rounds.{IsSolved, IsChecked, IsPublished}
 use Rattle.round_files.specs.Public.{IsCheckedOwn}
 use Rattle.commands.specs.declared.line.Line.{Line}
@@ -49,9 +47,10 @@ use Rattle.commands.specs.declared.line.LineFault.{LineFault}
 use Rattle.commands.specs.Reading.{IsAnswer}
 use Rattle.cli.specs.declared.tasks.Task.{Task}
 use Rattle.cli.specs.declared.tasks.Task.TheVariants as task
-use Rattle.cli.specs.Outputs.{Both}
+use Rattle.std.specs.Io.KnownBytes.{Appends}
+use Rattle.cli.specs.Outputs.{Both, HasCut}
 use Rattle.cli.specs.Imports.{IsImportOfFile}
-use Rattle.cli.specs.Outcomes.{MayComeOf, OfDatabase, OnFile, Outcome, ServesAt, Prints, of_answer, refused}
+use Rattle.cli.specs.Outcomes.{MayComeOf, OfDatabase, OnFile, Outcome, ServesAt, Prints, new_database, of_answer, refused}
 use Rattle.cli.specs.declared.status.Status.{Status}
 use Rattle.cli.specs.declared.status.Status.TheVariants.{Failure}
 
@@ -95,7 +94,7 @@ module _ {S : Type 0} (ghosts : Ghosts S) (ports : ℕ → PortState) where
   -- what a task makes of what is at a desk: one step of its request, or what its connections make
   abbrev pub TakesTo : Task → DeskState S → DeskState S → Type 0
   TakesTo (task.Ask asked) before after = (answer : Result Reply Refusal) × GetsAt ghosts before asked answer after
-  TakesTo (task.Serve serving) before after = (came : List (Result Served StreamFault)) × Connect (AnswersFrom ghosts) (ports serving.port).peers before came after
+  TakesTo (task.Serve serving) before after = (came : List Visit) × Connect (AnswersFrom ghosts) (ports serving.port).peers before came after
 
 module _ {S : Type 0} (ghosts : Ghosts S) where
   -- The office of the database was opened at this desk, this was done there, and the tables stand for the office after it. A disk that is
@@ -154,6 +153,11 @@ pub record LeavesFile {D : Type 0} {g : disk.Ghosts D} (world : WorldState) (nam
   pub left : LeftBy over_files world.ports done status first last
   pub closing : IsClosing last came
 
+-- The line of a database that is new was written before all else, or a part of it alone, and nothing was done.
+abbrev pub IsNamedFirst : {O E : Type 0} → List ℕ → Type 0 → Both O E → Both O E → Type 0
+IsNamedFirst name IsNothing old new =
+    ((more : List ℕ) × Appends old.err.written new.err.written (new_database name ++ more)) ⊎ (HasCut (new_database name) old new × IsNothing)
+
 -- a task was done over the database file with this name: what is left of it, and what was printed, of one connection
 pub record DoneOver {D : Type 0} {g : disk.Ghosts D} {O E : Type 0} (world : WorldState) (name : List ℕ) (done : Task)
     (came : Result (Files D) (Error × FileStore D g)) (old new : Both O E) (status : Status) : Type 0 where
@@ -161,6 +165,7 @@ pub record DoneOver {D : Type 0} {g : disk.Ghosts D} {O E : Type 0} (world : Wor
   pub last : Held (FileStore D g)
   pub leaves : LeavesFile world name done first last came status
   pub printed : Prints (PrintsOver over_files world.ports name done first last) old new status
+  pub named : HasNone (file_state first).now.schema → IsNamedFirst name (last ≡ first) old new
 
 -- the refusal of a database file that is not opened by this fault
 abbrev pub IsRefusalOf : Error → Refusal → Type 0

@@ -1,5 +1,7 @@
 -- The request that a line makes of an import file.
-use Rattle.std.specs.Prelude.{◌≡◌, ◌⊎◌, ℕ, ◌<◌, ◌≤◌, List, length, Result, Ok, Err}
+use Rattle.std.specs.Prelude.{◌≡◌, ◌≢◌, ◌⊎◌, ℕ, ◌<◌, ◌≤◌, List, length, Result, Ok, Err}
+use Rattle.std.specs.declared.io.ErrorKind.{ErrorKind}
+use Rattle.std.specs.declared.io.ErrorKind.TheVariants as kinds
 use Rattle.rolls.specs.declared.import.ImportKind.{ImportKind}
 use Rattle.rolls.specs.declared.refusal.Refusal.{Refusal}
 use Rattle.rolls.specs.declared.refusal.Refusal.TheVariants as no
@@ -14,9 +16,9 @@ IsImportOf id kind bytes (Ok asked) = (length bytes ≤ MAX_IMPORT_BYTES) × (as
 IsImportOf id kind bytes (Err refusal) =
     ((MAX_IMPORT_BYTES < length bytes) × (refusal ≡ no.TooLarge)) ⊎ ((length bytes ≤ MAX_IMPORT_BYTES) × (refusal ≡ no.Memory))
 
--- a file with these contents could not be read: memory ran out for it, or it is refused
+-- the refusal of a file that could not be opened or read: out of memory where that was the error, and else a fault of the storage
 abbrev pub IsUnreadOf : (Found → Type 0) → Refusal → Type 0
-IsUnreadOf holds refusal = (found : Found) × holds found × ((refusal ≡ no.Memory) ⊎ (refusal ≡ no.Storage))
+IsUnreadOf holds refusal = (kind : ErrorKind) × holds (Err kind) × (kind ≡ kinds.OutOfMemory → refusal ≡ no.Memory) × (kind ≢ kinds.OutOfMemory → refusal ≡ no.Storage)
 
 -- the request of an import of the bytes of a file with these contents was made, or not, or the file could not be read
 abbrev pub IsImportOfFile : (Found → Type 0) → List ℕ → ImportKind → Result Request Refusal → Type 0

@@ -18,7 +18,8 @@ use Rattle.rolls.specs.Fit.{IsFit}
 use Rattle.rolls.specs.Run.{Step}
 use Rattle.rolls.specs.RefusalInfo.{number_of, name_of}
 use Rattle.outside.specs.Layers.{layers}
-use Rattle.web.specs.Connections.{Connect, lines_after}
+use Rattle.web.specs.Connections.{AreAwaited, Connect, Visit, in_a_row, lines_after}
+use Rattle.web.specs.declared.TheConstants.{MAX_UNACCEPTED}
 use Rattle.web.specs.Serving.{AnswersOffice}
 use Rattle.wire.specs.Run.{MessageText}
 use Rattle.round_files.specs.Rounds.{IsSolved, IsChecked, IsPublished}
@@ -32,9 +33,8 @@ use Rattle.commands.specs.declared.line.LineFault.TheVariants.{Memory, Help, Ver
 use Rattle.commands.specs.Reading.{IsAnswer}
 use Rattle.cli.specs.declared.tasks.Task.{Task}
 use Rattle.cli.specs.declared.tasks.Task.TheVariants as task
-use Rattle.cli.specs.Outputs.{Both, both_failures}
-use Rattle.wire.specs.declared.outcome.Served.{Served}
-use Rattle.wire.specs.declared.outcome.StreamFault.{StreamFault}
+use Rattle.cli.specs.Imports.{IsUnreadOf}
+use Rattle.cli.specs.Outputs.{Both, Grows, both_failures}
 use Rattle.cli.specs.declared.status.Status.{Status}
 use Rattle.cli.specs.declared.status.Status.TheVariants.{Success, Failure, Usage}
 
@@ -114,14 +114,14 @@ OfDatabase name IsNew Is o = (IsNew × (printed : Outcome) × Is printed × (o �
 abbrev pub MayBeNew : List ℕ → (Outcome → Type 0) → Outcome → Type 0
 MayBeNew name Is o = ((printed : Outcome) × Is printed × (o ≡ behind (new_database name) printed)) ⊎ Is o
 
--- a file could not be read: memory ran out for it, or it is refused
-abbrev pub IsUnreadFile : Outcome → Type 0
-IsUnreadFile o = (o ≡ refused no.Memory) ⊎ (o ≡ refused no.Storage)
+-- a file with these contents could not be read, and why is printed
+abbrev pub IsUnreadFile : (Found → Type 0) → Outcome → Type 0
+IsUnreadFile holds o = (refusal : Refusal) × IsUnreadOf holds refusal × (o ≡ refused refusal)
 
 -- a line on a round file with these contents: it could not be read, or what comes of its bytes
 abbrev pub OnFile : (Found → Type 0) → (List ℕ → Result (String Global) Trouble → Type 0) → Outcome → Type 0
 OnFile holds Is o =
-    ((found : Found) × holds found × IsUnreadFile o)
+    IsUnreadFile holds o
     ⊎ ((bytes : List ℕ) × IsReadOf holds MAX_BYTES bytes × (came : Result (String Global) Trouble) × Is bytes came × (o ≡ of_round came))
 
 -- the database could not be opened, or its tables stand for no office
@@ -147,12 +147,15 @@ abbrev pub IsUnbound : {D : Type 0} → ℕ → D → D → Outcome → Type 0
 IsUnbound port before after o = (after ≡ before) × (o ≡ prints_err Failure (no_port port))
 
 module _ {D : Type 0} (step : D → MessageText → List ℕ → D → Type 0) (peers : ℕ → Peer) where
-  -- this many connections, the first that came, were served at a desk
+  -- Connections, the first that came, were served at a desk, and printed: as many as asked for, with status 0, or fewer, with status 1,
+  -- since too many in a row could not be accepted.
   pub record IsServed (port count : ℕ) (before after : D) (o : Outcome) : Type 0 where
-    pub came : List (Result Served StreamFault)
-    pub counted : length came ≡ count
+    pub came : List Visit
+    pub awaited : AreAwaited 0 came
     pub served : Connect step peers before came after
-    pub is : o ≡ prints (listening port ++ lines_after 0 came)
+    pub ends : ((length came ≡ count) × (o.status ≡ Success)) ⊎ ((length came < count) × (in_a_row 0 came ≡ MAX_UNACCEPTED) × (o.status ≡ Failure))
+    pub out : o.out ≡ listening port ++ lines_after 0 came
+    pub silent : o.err ≡ []
 
 module _ {D : Type 0} (step : D → MessageText → List ℕ → D → Type 0) (at : PortState) where
   -- those of this port were, or it could not be bound
@@ -180,7 +183,7 @@ IsImportLine name id kind bytes o =
 
 -- a line that imports a file: it could not be read, or what comes of importing its bytes
 abbrev pub ImportsFile : List ℕ → List ℕ → ImportKind → Outcome → Type 0
-ImportsFile name id kind o = IsUnreadFile o ⊎ ((bytes : List ℕ) × IsImportLine name id kind bytes o)
+ImportsFile name id kind o = IsUnreadFile (λ _. ⊤) o ⊎ ((bytes : List ℕ) × IsImportLine name id kind bytes o)
 
 -- what a line may come to
 abbrev pub MayCome : Line → Outcome → Type 0
@@ -203,16 +206,18 @@ MayComeOf (Err (Help text)) o = o ≡ prints (string_bytes text)
 MayComeOf (Err (Version text)) o = o ≡ prints (string_bytes text)
 MayComeOf (Err (Fault text)) o = o ≡ prints_err Usage (string_bytes text)
 
--- a text was written and the status is this, or the writer failed and the status is 1
+-- a text was written and the status is this, or the writer failed, what it took before stays, and the status is 1
 abbrev pub Printed : List ℕ → Status → Option (List ℕ) → Option (List ℕ) → ℕ → ℕ → Status → Type 0
 Printed text status w0 w failures0 failures ends =
-    ((failures ≡ failures0) × Appends w0 w text × (ends ≡ status)) ⊎ ((failures ≡ failures0 + 1) × (ends ≡ Failure))
+    ((failures ≡ failures0) × Appends w0 w text × (ends ≡ status))
+    ⊎ ((failures ≡ failures0 + 1) × (ends ≡ Failure) × ((more : List ℕ) × Appends w0 w more))
 
--- one of these outcomes was written to the two outputs and its status is this, or one call of a writer failed and the status is 1
+-- One of these outcomes was written to the two outputs and its status is this, or one call of a writer failed, what the two took before
+-- stays, and the status is 1.
 abbrev pub Prints : {O E : Type 0} → (Outcome → Type 0) → Both O E → Both O E → Status → Type 0
 Prints Is old new status =
     ((o : Outcome) × Is o × (both_failures new ≡ both_failures old) × Appends old.out.written new.out.written o.out × Appends old.err.written new.err.written o.err × (status ≡ o.status))
-    ⊎ ((both_failures new ≡ both_failures old + 1) × (status ≡ Failure))
+    ⊎ ((both_failures new ≡ both_failures old + 1) × (status ≡ Failure) × Grows old new)
 
 -- what the words may come to
 abbrev pub ComesTo : List (List ℕ) → Outcome → Type 0

@@ -1,9 +1,12 @@
 //! What a line does at the office of a database, which is opened for it and closed after it.
 
-ghost use Rattle.sqlite.specs.Files.{over_files};
+ghost use Rattle.std.specs.Prelude.{◌≡◌};
+ghost use Rattle.sqlite.specs.Files.{file_state, over_files};
+ghost use Rattle.sqlite.specs.Held.{state};
+ghost use Rattle.store.specs.Tables.{HasNone};
 ghost use Rattle.cli.specs.Outputs.{CanFail};
 ghost use Rattle.cli.specs.Outcomes.{Prints};
-ghost use Rattle.cli.specs.Databases.{DoesOver, PrintsOver, LeftBy, IsClosing};
+ghost use Rattle.cli.specs.Databases.{DoesOver, PrintsOver, LeftBy, IsClosing, IsNamedFirst};
 
 use crate::opening::{Closing, close_file};
 use crate::outputs::Outputs;
@@ -61,6 +64,7 @@ fn do_named<S: Alter + Drop, P: Ports, O: Sink, E: Sink>(
     requires { CanFail outputs.old }
     ensures printed { Prints (PrintsOver S.Store (P.state ports) name.now task connection result.1) outputs.old outputs.new result.0 }
     ensures left { LeftBy S.Store (P.state ports) task result.0 connection result.1 }
+    ensures named { HasNone (state S.Store connection).now.schema → IsNamedFirst name.now (result.1 ≡ connection) outputs.old outputs.new }
 {
     if !has_none(connection.schema()) {
         return do_over(alloc, ports, connection, task, outputs);
@@ -84,7 +88,9 @@ pub(crate) fn do_and_close<D: Disk + Drop, P: Ports, O: Sink, E: Sink>(
     requires { CanFail outputs.old }
 
     // One connection shows what was printed and what is left, and it is the one that was closed.
-    ensures { (last : _) × Prints (PrintsOver over_files (P.state ports) name.now task connection last) outputs.old outputs.new result.0 × LeftBy over_files (P.state ports) task result.0 connection last × IsClosing last result.1 }
+    ensures { (last : _) × Prints (PrintsOver over_files (P.state ports) name.now task connection last) outputs.old outputs.new result.0
+        × (HasNone (file_state connection).now.schema → IsNamedFirst name.now (last ≡ connection) outputs.old outputs.new)
+        × LeftBy over_files (P.state ports) task result.0 connection last × IsClosing last result.1 }
 {
     let (status, connection) = do_named(alloc, ports, name, connection, task, outputs);
     (status, close_file(connection))

@@ -70,7 +70,7 @@ pub(crate) fn import_file<W: World>(
 ) -> Result<Request, Refusal>
     ensures { IsImportOfFile ((W.state world.now).holds file.now) id.now kind result }
 {
-    let read = read_file(alloc, world, file, MAX_IMPORT_BYTES);
+    let read = read_file(world, file, MAX_IMPORT_BYTES);
     import_read(alloc, kind, id, read)
 }
 

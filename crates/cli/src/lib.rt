@@ -30,5 +30,5 @@ pub use laws::{printed_law, task_law};
 pub use opening::Closing;
 pub use outputs::Outputs;
 pub use program::{do_all, serve_anew, start};
-pub use run::{line, run_command};
+pub use run::run_command;
 pub use status::Status;

@@ -1,7 +1,7 @@
 //! What a line writes to: standard output and standard error.
 
-ghost use Rattle.std.specs.Prelude.{◌≡◌, ◌+◌, [], OnOk, OnErr};
-ghost use Rattle.cli.specs.Outputs.{CanFail, HasPrinted, both_failures};
+ghost use Rattle.std.specs.Prelude.{◌≡◌, [], OnOk, OnErr};
+ghost use Rattle.cli.specs.Outputs.{CanFail, HasCut, HasPrinted, both_of};
 ghost use Rattle.cli.specs.Outcomes.{Prints, prints_err, prints, refused, new_database, printed_reply};
 
 use crate::printing::{print, print_reply, refuse, write_new};
@@ -18,23 +18,30 @@ pub struct Outputs<O: Sink, E: Sink> {
 }
 
 impl<O: Sink, E: Sink> Model for Outputs<O, E> {
-    ghost use Rattle.cli.specs.Outputs.{Both};
+    ghost use Rattle.cli.specs.Outputs.{Both, both_of};
     ghost use Rattle.cli.specs.Inside.Outputs.{both_code};
 
     ghost Value = { Both O E };
 
     ghost coded = { both_code O.code E.code };
 
-    ghost view = { λ e. record { out = record { writer = e.out; written = O.written e.out; failures = O.failures e.out }; err = record { writer = e.err; written = E.written e.err; failures = E.failures e.err } } };
+    ghost view = { λ e. both_of O.written O.failures E.written E.failures e.out e.err };
 }
 
 impl<O: Sink, E: Sink> Outputs<O, E> {
     /// Puts the two writers together.
     pub fn new(out: O, err: E) -> Self
-        ensures out { result.out ≡ record { writer = out; written = O.written out; failures = O.failures out } }
-        ensures err { result.err ≡ record { writer = err; written = E.written err; failures = E.failures err } }
+        ensures { result ≡ both_of O.written O.failures E.written E.failures out err }
     {
         Outputs { out, err }
+    }
+
+    /// Returns the two writers.
+    pub fn into_parts(self) -> (O, E)
+        ensures { self ≡ both_of O.written O.failures E.written E.failures result.0 result.1 }
+    {
+        let Outputs { out, err } = self;
+        (out, err)
     }
 
     /// Prints a result with this status.
@@ -65,7 +72,7 @@ impl<O: Sink, E: Sink> Outputs<O, E> {
     pub(crate) fn print_new(&mut self, name: &str) -> Result<(), StreamFault>
         requires { CanFail self.old }
         ensures ok { OnOk result (HasPrinted (new_database name.now) self.old self.new) }
-        ensures err { OnErr result (both_failures self.new ≡ both_failures self.old + 1) }
+        ensures err { OnErr result (HasCut (new_database name.now) self.old self.new) }
     {
         write_new(&mut self.err, name)
     }

@@ -2,7 +2,7 @@
 
 ghost use Rattle.std.specs.Prelude.{◌≡◌, ◌-◌, ◌^◌, ◌<◌, ◌+◌, OnOk, OnErr};
 ghost use Rattle.std.specs.Io.KnownBytes.{Appends};
-ghost use Rattle.cli.specs.Outputs.{CanFail};
+ghost use Rattle.cli.specs.Outputs.{CanFail, IsCut};
 ghost use Rattle.cli.specs.Outcomes.{Printed, Prints, new_database, refusal_line, of_round, printed_reply};
 
 use crate::outputs::Outputs;
@@ -35,7 +35,7 @@ pub(crate) fn refuse<W: Sink>(err: &mut W, refusal: Refusal) -> Status
 pub(crate) fn write_new<W: Sink>(err: &mut W, name: &str) -> Result<(), StreamFault>
     requires { W.failures err.old < 2 ^ 64 - 1 }
     ensures ok { OnOk result ((W.failures err.new ≡ W.failures err.old) × Appends (W.written err.old) (W.written err.new) (new_database name.now)) }
-    ensures err { OnErr result (W.failures err.new ≡ W.failures err.old + 1) }
+    ensures err { OnErr result ((W.failures err.new ≡ W.failures err.old + 1) × IsCut (new_database name.now) (W.written err.old) (W.written err.new)) }
 {
     write_all(err, b"new ")?;
     write_all(err, name.as_bytes())?;

@@ -1,10 +1,11 @@
 //! The program: a line where there are arguments, or else standard input served over a new database in memory.
 
-ghost use Rattle.std.specs.Prelude.{◌≡◌, ◌-◌, ◌^◌, ◌<◌, ◌≤◌, IsTrue, false};
-ghost use Rattle.cli.specs.Outputs.{CanFail};
+ghost use Rattle.std.specs.Prelude.{◌≡◌, ◌-◌, ◌^◌, ◌<◌, IsTrue, false};
+ghost use Rattle.std.specs.Process.{exit_status};
+ghost use Rattle.cli.specs.Outputs.{CanFail, both_of};
 ghost use Rattle.cli.specs.Anew.{ServedAnew, BrokenAnew};
 ghost use Rattle.std.specs.IoError.{error_kind};
-ghost use Rattle.cli.specs.Begun.{IsAllDone, OfUnread};
+ghost use Rattle.cli.specs.Begun.{IsAllDone, IsStarted, OfUnread};
 ghost use Rattle.cli.specs.Outcomes.{Prints};
 
 use crate::opening::Closing;
@@ -14,12 +15,12 @@ use crate::status::Status;
 use crate::texts::NOT_UTF8;
 use desk::Desk;
 use rolls::Refusal;
-use sqlite::{Connection, Unknown};
+use sqlite::Connection;
 use std::alloc::Global;
 use std::io::{self, ErrorKind};
-use std::rt::HostRuntime;
-use web::{Sink, Source, Watched, serve_stream};
-use world::{Machine, World};
+use std::process::ExitCode;
+use web::{Sink, Source, serve_stream};
+use world::{Host, World};
 
 /// Serves a stream over a new database in memory, from the empty office on, and returns whether it was served to its end.
 ///
@@ -87,13 +88,16 @@ pub fn do_all<W: World, R: Source, O: Sink, E: Sink>(
     }
 }
 
-/// Does all that the program does on this machine, with its standard streams, and gives its status, which is at most 2.
-pub fn start(rt: &HostRuntime) -> u8
-    ensures { result ≤ 2 }
+/// Does all that the program does with what a host lends it, as `do_all` does, gives the streams back, and returns its status. The host is
+/// the machine.
+pub fn start<H: Host>(alloc: Global, mut host: H) -> ExitCode
+    ensures { IsStarted H.World.File H.World.File.Disk H.World.state H.In.left (both_of H.Out.written H.Out.failures H.Err.written H.Err.failures)
+        (H.lends host) (H.takes host) (exit_status result) }
 {
-    let mut reader = Watched::new(rt.stdin());
-    let mut outputs = Outputs::new(Watched::new(rt.stdout()), Watched::new(rt.stderr()));
-    let world = Machine::new(*rt, Unknown);
-    let (status, _closing) = do_all(rt.alloc(), world, &mut reader, &mut outputs);
-    status.number()
+    let (world, mut input, out, err) = host.lend();
+    let mut outputs = Outputs::new(out, err);
+    let (status, _closing) = do_all(alloc, world, &mut input, &mut outputs);
+    let (out, err) = outputs.into_parts();
+    host.take(input, out, err);
+    ExitCode::from(status.number())
 }

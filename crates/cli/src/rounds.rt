@@ -67,6 +67,6 @@ pub(crate) fn do_file<W: World, O: Sink, E: Sink>(
     requires { CanFail outputs.old }
     ensures { Prints (OnFile ((W.state world.now).holds file.now) (ComesBy way.entry)) outputs.old outputs.new result }
 {
-    let came = do_read(alloc, way, read_file(alloc, world, file, MAX_BYTES));
+    let came = do_read(alloc, way, read_file(world, file, MAX_BYTES));
     print_round(came, outputs)
 }

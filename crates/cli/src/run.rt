@@ -1,6 +1,6 @@
 //! A whole line: its words, what it prints, and its status.
 
-ghost use Rattle.std.specs.Prelude.{◌≤◌, map, string_bytes};
+ghost use Rattle.std.specs.Prelude.{map, string_bytes};
 ghost use Rattle.cli.specs.Outputs.{CanFail};
 ghost use Rattle.cli.specs.Databases.{LineAt, WordsAt};
 
@@ -13,12 +13,9 @@ use crate::status::Status;
 use crate::tasks::{Serving, Task};
 use commands::{Line, LineFault, command};
 use rolls::{Plain, Refusal, Request};
-use sqlite::Unknown;
 use std::alloc::Global;
-use std::io::Write;
-use std::rt::HostRuntime;
-use web::{Sink, Watched};
-use world::{Machine, World};
+use web::Sink;
+use world::World;
 
 /// Does a line, and prints what comes of it. A file is read first, then a database is opened, then a port is bound, and then the
 /// request is judged.
@@ -116,23 +113,4 @@ pub fn run_command<W: World, O: Sink, E: Sink>(
         Err(LineFault::Version(text)) => (outputs.print(text.as_bytes(), Status::Success), None),
         Err(LineFault::Fault(text)) => (outputs.print_err(text.as_bytes(), Status::Usage), None),
     }
-}
-
-/// Does the line of these words with any two writers, as `run_command` does.
-pub fn line<O: Write + Drop, E: Write + Drop>(
-    rt: &HostRuntime,
-    words: Vec<String>,
-    out: O,
-    err: E,
-) -> u8
-    ensures { result ≤ 2 }
-{
-    let mut outputs = Outputs::new(Watched::new(out), Watched::new(err));
-    let (status, _closing) = run_command(
-        rt.alloc(),
-        Machine::new(*rt, Unknown),
-        &words,
-        &mut outputs,
-    );
-    status.number()
 }

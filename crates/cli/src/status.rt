@@ -1,6 +1,7 @@
 //! The status that the program ends with.
 
-ghost use Rattle.std.specs.Prelude.{◌≡◌, ◌≤◌};
+ghost use Rattle.std.specs.Prelude.{◌≡◌};
+ghost use Rattle.cli.specs.Begun.{number_of};
 
 /// The status that the program ends with.
 #[derive(Clone, Copy, Drop)]
@@ -16,10 +17,7 @@ pub enum Status {
 impl Status {
     /// Returns the number by which the system knows it.
     pub fn number(self) -> u8
-        ensures success { self ≡ Status.Success → result ≡ 0 }
-        ensures failure { self ≡ Status.Failure → result ≡ 1 }
-        ensures usage { self ≡ Status.Usage → result ≡ 2 }
-        ensures few { result ≤ 2 }
+        ensures { result ≡ number_of self }
     {
         match self {
             Status::Success => 0,

@@ -1,6 +1,6 @@
 //! What a line does at a desk.
 
-ghost use Rattle.std.specs.Prelude.{◌≡◌, ◌-◌, ◌^◌, ◌<◌, IfOk, IfErr, MatchResult};
+ghost use Rattle.std.specs.Prelude.{◌≡◌, ◌≢◌, ◌⊎◌, ◌+◌, ◌-◌, ◌^◌, ◌<◌, IfOk, IfErr, MatchResult};
 ghost use Rattle.web.specs.Connections.{Connect};
 ghost use Rattle.web.specs.Serving.{AnswersFrom};
 ghost use Rattle.cli.specs.Outputs.{CanFail};
@@ -37,6 +37,17 @@ pub(crate) struct Serving {
     pub(crate) count: u32,
 }
 
+/// Returns the status of a service: a failure where fewer were served than asked for.
+fn status_after(served: u32, count: u32) -> Status
+    ensures { ((served ≡ count) × (result ≡ Status.Success)) ⊎ ((served ≢ count) × (result ≡ Status.Failure)) }
+{
+    if served == count {
+        Status::Success
+    } else {
+        Status::Failure
+    }
+}
+
 /// Serves connections of a port at a desk, and writes a line of each after that of the port.
 fn serve_at<S: Alter, D: Door, O: Sink>(
     alloc: Global,
@@ -49,7 +60,7 @@ fn serve_at<S: Alter, D: Door, O: Sink>(
     ensures printed { Serves (AnswersFrom S.Store) (D.peers door.old) serving.port serving.count desk.old desk.new (O.written out.old) (O.written out.new) (O.failures out.old) (O.failures out.new) result }
 
     // Nothing is served before the line of the port is out.
-    ensures cut { result ≡ Status.Failure → IsCutOff (AnswersFrom S.Store) (D.peers door.old) desk.old serving.port serving.count (O.written out.old) (O.written out.new) desk.new }
+    ensures cut { O.failures out.new ≡ O.failures out.old + 1 → IsCutOff (AnswersFrom S.Store) (D.peers door.old) desk.old serving.port serving.count (O.written out.old) (O.written out.new) desk.new }
     ensures served { (came : _) × Connect (AnswersFrom S.Store) (D.peers door.old) desk.old came desk.new }
 {
     let Ok(()) = write_all(
@@ -59,7 +70,7 @@ fn serve_at<S: Alter, D: Door, O: Sink>(
         return Status::Failure;
     };
     match serve_on(alloc, desk, door, serving.count, out) {
-        Ok(()) => Status::Success,
+        Ok(served) => status_after(served, serving.count),
         Err(_) => Status::Failure,
     }
 }

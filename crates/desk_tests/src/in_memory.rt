@@ -11,7 +11,7 @@ use std::alloc::{AllocError, Global};
 use std::cell::RefCell;
 use std::io::{self, ErrorKind, Write};
 use web::Watched;
-use world::{Door, Ports, World};
+use world::{Door, Ports, World, read_up_to};
 
 /// Returns these words, parted by blanks.
 pub(crate) fn parted(alloc: Global, words: &str) -> Result<Vec<String>, AllocError> {
@@ -100,8 +100,6 @@ pub(crate) struct InMemory<'a, D: Disk> {
 }
 
 impl<'a, D: Disk + Drop> World for InMemory<'a, D> {
-    type Reader = Pieces<'a>;
-
     type File = D;
 
     type Ports = Callers<'a>;
@@ -116,10 +114,10 @@ impl<'a, D: Disk + Drop> World for InMemory<'a, D> {
         }
     }
 
-    fn read(&self, path: &str) -> io::Result<Pieces<'a>> {
+    fn read(&self, path: &str, most: usize) -> io::Result<Vec<u8>> {
         for file in self.files {
             if file.0.as_str() == path {
-                return Ok(reader(file));
+                return read_up_to(self.alloc, reader(file), most);
             }
         }
         Err(io::Error::from(ErrorKind::NotFound))

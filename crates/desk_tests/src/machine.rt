@@ -1,7 +1,8 @@
 //! The machine that the program runs on, over a file and connections on loopback.
 
 use crate::in_memory::parted;
-use cli::line;
+use cli::{Outputs, run_command};
+use sqlite::Unknown;
 use std::io::{Read, Write};
 use std::net::{Ipv4Addr, Shutdown, TcpListener, TcpStream};
 use std::rt::HostRuntime;
@@ -9,7 +10,8 @@ use std::test::Fail;
 use std::{fs, io};
 use test_support::judged::holds;
 use test_support::offices::exchanged;
-use world::{Door, Ports};
+use web::Watched;
+use world::{Door, Machine, Ports};
 
 /// A writer that calls the port of the line that writes to it, once it writes: as a client who asks, and as one who does not.
 #[derive(Drop)]
@@ -44,6 +46,16 @@ impl Write for Caller<'_> {
     }
 }
 
+/// Does a command on this machine. Its status.
+fn command<O: Write + Drop>(rt: &HostRuntime, words: &str, out: O) -> Result<u8, Fail> {
+    let words = parted(rt.alloc(), words)?;
+    let err = Vec::new(rt.alloc());
+    let mut outputs = Outputs::new(Watched::new(out), Watched::new(err));
+    let machine = Machine::new(*rt, Unknown);
+    let (status, _closing) = run_command(rt.alloc(), machine, &words, &mut outputs);
+    Ok(status.number())
+}
+
 /// Returns a port that is free. As long as another has it, it cannot be bound, and nobody calls it.
 fn free_port(rt: &HostRuntime) -> Result<u16, Fail> {
     let mut listener = TcpListener::bind(rt, (Ipv4Addr::LOCALHOST, 0))?;
@@ -66,8 +78,7 @@ fn serve(rt: &HostRuntime, port: u16) -> Result<(), Fail> {
         told: Vec::new(rt.alloc()),
     };
     let words = format!(in rt.alloc(); "spadesk serve client.db {port} 2")?;
-    let words = parted(rt.alloc(), &words)?;
-    let status = line(rt, words, &mut caller, Vec::new(rt.alloc()));
+    let status = command(rt, &words, &mut caller)?;
     let want = format!(in rt.alloc();
         "listening {port}\nconnection 1: 10 answers, closed\nconnection 2: 0 answers, closed\n"
     )?;
@@ -86,9 +97,8 @@ fn serve(rt: &HostRuntime, port: u16) -> Result<(), Fail> {
 fn a_file_that_was_served_is_the_whole_database(rt: HostRuntime) -> Result<(), Fail> {
     serve(&rt, free_port(&rt)?)?;
     fs::copy(&rt, "client.db", "copy.db")?;
-    let words = parted(rt.alloc(), "spadesk report copy.db missing 1")?;
     let mut out = Vec::new(rt.alloc());
-    let status = line(&rt, words, &mut out, Vec::new(rt.alloc()));
+    let status = command(&rt, "spadesk report copy.db missing 1", &mut out)?;
     let is_told = status == 0 && out.as_slice() == b"B                Bob\n".as_slice();
     holds(is_told, "who has no list")
 }

@@ -46,6 +46,14 @@ const TWENTY: &str =
        POST /rounds || 200 OK | {"round":1}
        fill 20 | A$,X$ V$^nC$,Z X$ Y U$^n | POST /imports/lists/I4 | student,choices^n$ | 200 OK | {"rows":40}"#;
 
+/// A student and twelve projects in an open round.
+#[rattlefmt::skip]
+const TWELVE: &str =
+    r#"POST /imports/supervisors/I1 | code,name,quota^nL,Lee,500^n | 200 OK | {"rows":1}
+       fill 12 | X$,Pumps,L,1^n | POST /imports/projects/I2 | code,name,supervisor,quota^n$ | 200 OK | {"rows":12}
+       PUT /students/A | {"name":"Ann"} | 200 OK | {"ok":true}
+       POST /rounds || 200 OK | {"round":1}"#;
+
 /// A preview of the school, which starts a session where there is none.
 const PREVIEW: &str = r#"GET /preview || 200 OK | {"profile":[0,2,0,0^,],"size":2}"#;
 
@@ -56,7 +64,7 @@ const PREVIEWED: &str =
        GET /preview || 200 OK | {"profile":[0,2,0,0^,],"size":2}"#;
 
 #[rattlefmt::skip]
-static ROWS: [Row; 8] = [
+static ROWS: [Row; 9] = [
     ("",
      r#"POST /imports/students/I1 | code,name^nS1,Ann^nS2,Bob^n | 200 OK | {"rows":2}"#,
      r#"GET /students/S2 || 404 Not Found | {"fault":"UnknownStudent","number":15}"#,
@@ -74,6 +82,10 @@ static ROWS: [Row; 8] = [
      r#"POST /rounds | {"aim":"generous"} | 200 OK | {"round":1}"#,
      r#"GET /rounds/1 || 404 Not Found | {"fault":"UnknownRound","number":26}"#,
      r#"GET /rounds/1 || 200 OK | {"aim":"generous","open":true,"placed":0,"profile":[0,0,0,0^,],"round":1,"students":0}"#),
+    (TWELVE,
+     r#"POST /imports/lists/I3 | student,choices^nA,X1000 X1001 X1002 X1003 X1004 X1005 X1006 X1007 X1008 X1009 X1010 X1011^n | 200 OK | {"rows":1}"#,
+     r#"GET /students/A || 200 OK | {"list":null,"name":"Ann","placed":null}"#,
+     r#"GET /students/A || 200 OK | {"list":["X1000","X1001","X1002","X1003","X1004","X1005","X1006","X1007","X1008","X1009","X1010","X1011"],"name":"Ann","placed":null}"#),
     ("play SCHOOL LISTED", PREVIEW, "", PREVIEW),
     (PREVIEWED, PREVIEW, PREVIEW, PREVIEW),
     (PREVIEWED,

@@ -9,5 +9,5 @@ use std::process::ExitCode;
 use std::rt::HostRuntime;
 
 fn main(rt: HostRuntime) -> ExitCode {
-    ExitCode::from(start(&rt))
+    start(rt.alloc(), rt)
 }

@@ -1,5 +1,5 @@
 -- The messages of a stream are requests asked one after another at a desk.
-use Rattle.std.proofs.Common.{◌≡◌, ◌⊎◌, ◌+◌, ◌*◌, ◌≤◌, ◌^◌, arith, inl, inr, ℕ, List, [], ◌∷◌, length, suc, Option, Result, Ok, Err, refl, sym, subst}
+use Rattle.std.proofs.Common.{◌≡◌, ◌⊎◌, ◌+◌, ◌*◌, ◌≤◌, ◌^◌, arith, inl, inr, ℕ, List, [], ◌∷◌, length, suc, Option, Some, None, Result, Ok, Err, refl, sym, subst}
 use Rattle.std.specs.List.{AllByRecursion}
 use Rattle.std.specs.Prelude.{⊤}
 use Rattle.sqlite.specs.Held.{state}
@@ -20,7 +20,7 @@ use Rattle.wire.specs.Served.{IsServed}
 use Rattle.wire.specs.declared.outcome.Served.{Served}
 use Rattle.wire.specs.declared.outcome.StreamFault.{StreamFault}
 use Rattle.world.specs.WorldState.{Peer}
-use Rattle.web.specs.Connections.{Connect}
+use Rattle.web.specs.Connections.{Connect, Visit}
 use Rattle.web.specs.Laws.{AnsweredStay, GetsAvailable, OneAsks, StreamLasts}
 use Rattle.web.specs.Serving.{AnswersBy, AnswersFrom, AnswersRead, GetsAt, end_text}
 
@@ -87,16 +87,16 @@ module _ {S : Type 0} (ghosts : Ghosts S) (reaches : AskReaches ghosts) where
   connects old new left0 w0 left w (Ok served) s = all_reach ghosts IsAny reaches old new s.served.serves.messages s.served.serves.answers (λ q h. tt) s.served.serves.ran
   connects old new left0 w0 left w (Err fault) s = all_reach ghosts IsAny reaches old new s.broken.messages s.broken.answers (λ q h. tt) s.broken.ran
 
-  all_connect : (peers : ℕ → Peer) (old new : DeskState S) (came : List (Result Served StreamFault)) → Connect (AnswersFrom ghosts) peers old came new
+  all_connect : (peers : ℕ → Peer) (old new : DeskState S) (came : List Visit) → Connect (AnswersFrom ghosts) peers old came new
       → IsReachedBy ghosts IsAny old → IsReachedBy ghosts IsAny new
   all_connect peers old new [] same served = subst (IsReachedBy ghosts IsAny) (sym same) served
-  all_connect peers old new (one ∷ came) (mid, inl it, more) served =
+  all_connect peers old new (Some one ∷ came) (mid, it, more) served =
       all_connect (λ n. peers (suc n)) mid new came more (connects old mid it.0.left it.0.written it.2.left it.2.written one it.4.served served)
-  all_connect peers old new (one ∷ came) (mid, inr none, more) served =
-      all_connect (λ n. peers (suc n)) mid new came more (subst (IsReachedBy ghosts IsAny) (sym none.2) served)
+  all_connect peers old new (None ∷ came) (mid, none, more) served =
+      all_connect (λ n. peers (suc n)) mid new came more (subst (IsReachedBy ghosts IsAny) (sym none.1) served)
 
 -- over connections, the first of them at a desk at rest, a crash leaves what all answered messages left, or what one request makes of it
-pub connections_stay : {S : Type 0} (ghosts : Ghosts S) → AskReaches ghosts → AnswersStay ghosts → (peers : ℕ → Peer) (old new : DeskState S) (came : List (Result Served StreamFault))
+pub connections_stay : {S : Type 0} (ghosts : Ghosts S) → AskReaches ghosts → AnswersStay ghosts → (peers : ℕ → Peer) (old new : DeskState S) (came : List Visit)
     → IsAtRest ghosts old → Connect (AnswersFrom ghosts) peers old came new → (office : State) → IsOpenedAfter ghosts new office
     → (office ≡ new.office) ⊎ ((asked : Request) × CarriesOut new.office asked office)
 connections_stay ghosts reaches stay peers old new came rest ran office opened =

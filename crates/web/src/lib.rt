@@ -17,3 +17,6 @@ pub use connections::{OutFault, serve_on};
 pub use laws::stream_law;
 pub use service::serve_stream;
 pub use wire::{End, Served, ShortText, Sink, Source, StreamFault, Watched, write_all};
+
+/// How many in a row that cannot be accepted end the service of a port: the system has no descriptor or memory left for them.
+pub const MAX_UNACCEPTED: u32 = 10;

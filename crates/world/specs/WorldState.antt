@@ -1,5 +1,5 @@
 -- What is outside of the program, as contracts see it. A relation here holds of what was found: no code makes it hold but by looking.
-use Rattle.std.specs.Prelude.{◌≡◌, ◌⊎◌, ◌+◌, ℕ, List, take, ⊤, Option, Some, IfSome, Result}
+use Rattle.std.specs.Prelude.{◌≡◌, ◌⊎◌, ◌+◌, ℕ, List, take, ⊤, Option, IfSome, Result, Ok}
 use Rattle.std.specs.declared.io.ErrorKind.{ErrorKind}
 use Rattle.sqlite_disk.specs.declared.Disk.{Ghosts}
 use Rattle.sqlite_disk.specs.declared.Files.{Files}
@@ -10,9 +10,9 @@ use Rattle.sqlite.specs.declared.file.Leftover.{Leftover}
 use Rattle.sqlite.specs.Files.{IsCleanLeft, FailsToOpenFiles, LeavesFiles}
 use Rattle.sqlite_wal.specs.Recovery.{Image}
 
--- what there is to read, where that is known, or none where it could not be opened
+-- what there is to read, where that is known, or by which kind of error it could not be opened or read
 abbrev pub Found : Type 0
-Found = Option (Option (List ℕ))
+Found = Result (Option (List ℕ)) ErrorKind
 
 -- the two ends of a connection: what is left to read and what was written, where they are known, and how many calls of each failed
 pub record Ends : Type 0 where
@@ -56,7 +56,7 @@ pub record WorldState : Type 1 where
 
 -- these bytes are those of a file, up to the first one above this many
 abbrev pub IsReadOf : (Found → Type 0) → ℕ → List ℕ → Type 0
-IsReadOf holds most bytes = (left : Option (List ℕ)) × holds (Some left) × IfSome left (λ all. bytes ≡ take (most + 1) all)
+IsReadOf holds most bytes = (all : Option (List ℕ)) × holds (Ok all) × IfSome all (λ all. bytes ≡ take (most + 1) all)
 
 -- a database file is not opened by this fault: it cannot be found, or what was found there is why
 abbrev pub FailsToOpen : {D : Type 0} (g : Ghosts D) → (Files D → Type 0) → Error → Type 0

@@ -7,13 +7,15 @@ ghost use Rattle.sqlite_std_file.specs.File.{IsFresh};
 ghost use Rattle.sqlite_wal.specs.Files.{image_at};
 ghost use Rattle.world.specs.WorldState.{FailsToOpen, some_port};
 
+use crate::files::read_up_to;
+use crate::hosts::Host;
 use crate::worlds::{Door, Ports, World};
-use sqlite::{Connection, Error, FileFrom, FileStore, Start};
+use sqlite::{Connection, Error, FileFrom, FileStore, Start, Unknown};
 use sqlite_disk::Disk;
 use std::fs::File;
 use std::io::Read;
 use std::net::{Ipv4Addr, Shutdown, SocketAddrV4, TcpListener, TcpStream};
-use std::rt::HostRuntime;
+use std::rt::{HostRuntime, Stderr, Stdin, Stdout};
 use std::time::Duration;
 use std::{env, io};
 use wire::Watched;
@@ -92,8 +94,6 @@ impl<S: Start> Machine<S> {
 }
 
 impl<S: Start> World for Machine<S> {
-    type Reader = File;
-
     type File = FileFrom<S>;
 
     type Ports = HostRuntime;
@@ -104,8 +104,8 @@ impl<S: Start> World for Machine<S> {
         Ok(env::args(&self.rt)?.collect(self.rt.alloc())?)
     }
 
-    fn read(&self, path: &str) -> io::Result<File> {
-        File::open(&self.rt, path)
+    fn read(&self, path: &str, most: usize) -> io::Result<Vec<u8>> {
+        read_up_to(self.rt.alloc(), File::open(&self.rt, path)?, most)
     }
 
     fn open(self, path: &str) -> Result<(Connection<FileStore<FileFrom<S>>>, HostRuntime), Error> {
@@ -115,4 +115,36 @@ impl<S: Start> World for Machine<S> {
             Err((error, _)) => Err(error),
         }
     }
+}
+
+impl Host for HostRuntime {
+    type World = Machine<Unknown>;
+
+    type In = Watched<Stdin>;
+
+    type Out = Watched<Stdout>;
+
+    type Err = Watched<Stderr>;
+
+    ghost lends = { λ _ _ _ _ _. ⊤ };
+
+    ghost takes = { λ _ _ _ _. ⊤ };
+
+    fn lend(
+        &mut self,
+    ) -> (
+        Machine<Unknown>,
+        Watched<Stdin>,
+        Watched<Stdout>,
+        Watched<Stderr>,
+    ) {
+        (
+            Machine::new(*self, Unknown),
+            Watched::new(self.stdin()),
+            Watched::new(self.stdout()),
+            Watched::new(self.stderr()),
+        )
+    }
+
+    fn take(self, _input: Watched<Stdin>, _out: Watched<Stdout>, _err: Watched<Stderr>) {}
 }

@@ -1,18 +1,17 @@
 //! What the program can do outside. What it has not been lent it cannot do: who holds ports opens no file, and a database is opened once.
 
-ghost use Rattle.std.specs.Prelude.{◌≡◌, ℕ, ◌+◌, false, map, string_bytes, Some, None, Ok, Err, IfOk, IfErr, MatchResult};
+ghost use Rattle.std.specs.Prelude.{◌≡◌, ℕ, ◌+◌, ◌^◌, ◌<◌, false, map, string_bytes, Some, None, Ok, Err, IfOk, IfErr, MatchResult};
 ghost use Rattle.std.specs.IoError.{error_kind};
 ghost use Rattle.sqlite.specs.Files.{IsBlankAs, IsOpened, file_state};
 ghost use Rattle.sqlite.specs.Held.{IsNew};
 ghost use Rattle.sqlite.specs.Start.{FindsIn};
 ghost use Rattle.sqlite.specs.State.{HasCleanDisk};
 ghost use Rattle.sqlite_store.specs.FileStore.{view};
-ghost use Rattle.world.specs.WorldState.{Ends, IsPeer, Peer, PortState, Within, WorldState};
+ghost use Rattle.world.specs.WorldState.{Ends, IsPeer, IsReadOf, Peer, PortState, Within, WorldState};
 
 use sqlite::{Connection, Error, FileStore};
 use sqlite_disk::Disk;
 use std::io;
-use std::io::Read;
 use wire::{Sink, Source};
 
 /// A port that is bound.
@@ -60,9 +59,6 @@ pub trait Ports: Drop {
 
 /// What a program is given, and files, one of which can be opened as a database; then the ports are left.
 pub trait World: Drop {
-    /// What is read of a file.
-    type Reader: Read + Drop;
-
     /// A file of a database.
     type File: Disk + Drop;
 
@@ -76,9 +72,10 @@ pub trait World: Drop {
     fn words(&self) -> io::Result<Vec<String>>
         ensures { MatchResult result (λ words. (state self.now).said (Ok (map string_bytes words.items))) (λ error. (state self.now).said (Err (error_kind error))) };
 
-    /// Opens the file with this name, and returns what reads it.
-    fn read(&self, path: &str) -> io::Result<Self::Reader>
-        ensures { MatchResult result (λ reader. (state self.now).holds path.now (Some (Self.Reader.remaining reader))) (λ _. (state self.now).holds path.now None) };
+    /// Reads the file with this name up to its end, or up to the first byte above the limit.
+    fn read(&self, path: &str, most: usize) -> io::Result<Vec<u8>>
+        requires { most < 2 ^ 32 }
+        ensures { MatchResult result (λ bytes. IsReadOf ((state self.now).holds path.now) most bytes.items) (λ error. (state self.now).holds path.now (Err (error_kind error))) };
 
     /// Opens the database file with this name; a file that is not there is made. No limit is set on the steps of a statement.
     fn open(self, path: &str) -> Result<(Connection<FileStore<Self::File>>, Self::Ports), Error>

@@ -17,10 +17,11 @@ returns-in-Ok g c =
         plain = c.in-Ok.ensures.plain;
         fresh = c.in-Ok.ensures.fresh;
         of_file = of_file _ c.in-Ok.connection (file_state did.0) c.in-Ok.ensures.found c.in-Ok.ensures.opened;
-        left = left_within over_files lent ports c.in-Ok.ensures.ports c.args.task _ c.in-Ok.connection did.0 did.2;
-        closing = did.3;
+        left = left_within over_files lent ports c.in-Ok.ensures.ports c.args.task _ c.in-Ok.connection did.0 did.3;
+        closing = did.4;
       };
       printed = prints_more _ _ (λ o is. tells_within over_files lent ports c.in-Ok.ensures.ports c.args.database.now c.args.task c.in-Ok.connection did.0 o is) _ _ _ did.1;
+      named = did.2;
     }
 
 pub returns-in-Err : goal.returns-in-Err

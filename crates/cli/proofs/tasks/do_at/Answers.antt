@@ -1,5 +1,5 @@
 use Rattle.std.proofs.Common.{◌≡◌, ◌∙◌, ap, inl, inr, rules, sym, ℕ, List, [], Result, Ok, Err, IfOk, IfErr, MatchResult}
-use Rattle.cli.proofs.Common.{Served, StreamFault, MessageText, IsPeer, Peer, PortState, Connect, AnswersFrom, gets_at, ComesFrom, IsServed, IsUnbound, Outcome, ServesAt, of_answer, printed_reply, prints}
+use Rattle.cli.proofs.Common.{Visit, MessageText, IsPeer, Peer, PortState, Connect, AnswersFrom, gets_at, ComesFrom, IsServed, IsUnbound, Outcome, ServesAt, of_answer, printed_reply, prints}
 use Rattle.cli.specs.declared.tasks.Task.TheVariants as task
 use Rattle.cli.proofs.Opened.{came_within}
 use Rattle.cli.proofs.Writers.{prints_more}
@@ -28,11 +28,11 @@ module _ {A E D : Type 0} (step : D → MessageText → List ℕ → D → Type 
   -- whether the port was bound or not
   serves : (bound : Result A E) (port count : ℕ) (o : Outcome) → IfOk bound (λ a. (n : ℕ) → IsPeer (peers a n) (at.peers n)) → IfErr bound (λ _. at.is_taken)
       → MatchResult bound (λ a. IsServed step (peers a) port count before after o) (λ _. IsUnbound port before after o) → ServesAt step at port count before after o
-  serves (Ok a) port count o of taken is = inr (record { came = is.came; counted = is.counted; served = came_within step (peers a) at.peers of before after is.came is.served; is = is.is })
+  serves (Ok a) port count o of taken is = inr (record { came = is.came; awaited = is.awaited; served = came_within step (peers a) at.peers of before after is.came is.served; ends = is.ends; out = is.out; silent = is.silent })
   serves (Err e) port count o of taken is = inl (taken, is)
 
-  takes : (bound : Result A E) → IfOk bound (λ a. (n : ℕ) → IsPeer (peers a n) (at.peers n)) → IfOk bound (λ a. (came : List (Result Served StreamFault)) × Connect step (peers a) before came after)
-      → IfErr bound (λ _. after ≡ before) → (came : List (Result Served StreamFault)) × Connect step at.peers before came after
+  takes : (bound : Result A E) → IfOk bound (λ a. (n : ℕ) → IsPeer (peers a n) (at.peers n)) → IfOk bound (λ a. (came : List Visit) × Connect step (peers a) before came after)
+      → IfErr bound (λ _. after ≡ before) → (came : List Visit) × Connect step at.peers before came after
   takes (Ok a) of served none = (served.0, came_within step (peers a) at.peers of before after served.0 served.1)
   takes (Err e) of served none = ([], none)
 

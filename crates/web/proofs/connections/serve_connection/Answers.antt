@@ -1,11 +1,10 @@
-use Rattle.std.proofs.Common.{◌+◌, ◌∙◌, ap, inl}
+use Rattle.std.proofs.Common.{◌+◌, ◌∙◌, ap}
 use Rattle.wire.specs.Run.{read_failed, write_failed}
 use Rattle.web.proofs.connections.serve_connection.Goals as goal
 
 pub returns-clause-served : goal.returns-clause-served
 returns-clause-served g c =
-    let served = c.serve_stream-came.ensures in
-    inl (
+    let served = c.serve_stream-came.ensures in (
       _,
       c.in-Ok.ensures.came,
       _,
