@@ -26,10 +26,8 @@ mod instances;
 mod line_words;
 // Results that are posted without lists: what everybody and each student find wrong.
 #[cfg(test)]
-mod posted_results;
 // Texts of what is posted: made, checked by everybody, and by each student.
 #[cfg(test)]
-mod public_texts;
 // Helper: instances and matchings from short texts.
 #[cfg(test)]
 mod rolls_of;

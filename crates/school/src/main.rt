@@ -39,7 +39,7 @@ fn play_all(rt: &HostRuntime) -> Result<bool, Unplayed> {
 
 fn main(rt: HostRuntime) -> ExitCode {
     match play_all(&rt) {
-        Ok(true) => ExitCode::from(start(&rt)),
+        Ok(true) => start(rt.alloc(), rt),
         Ok(false) => ExitCode::SUCCESS,
         Err(_) => ExitCode::FAILURE,
     }

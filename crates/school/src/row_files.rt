@@ -4,10 +4,14 @@ use crate::in_memory::{is_of_offices, play_offices};
 use crate::over_files::{Over, do_on};
 use crate::texts::{matches_cell, summed, written_out};
 use crate::unplayed::Unplayed;
-use cli::line;
+use cli::{Outputs, run_command};
+use sqlite::Unknown;
+use std::io::Write;
 use std::rt::HostRuntime;
 use std::{fs, str};
 use test_support::cells::{body_of, first_cell};
+use web::Watched;
+use world::Machine;
 
 /// What a command printed on standard output and on standard error, and its status.
 #[derive(Drop)]
@@ -31,6 +35,19 @@ pub(crate) fn compare(
     Ok(())
 }
 
+/// Does the command of these words on this machine. Its status.
+fn status_of<O: Write + Drop, E: Write + Drop>(
+    rt: &HostRuntime,
+    words: &[String],
+    out: O,
+    err: E,
+) -> u8 {
+    let mut outputs = Outputs::new(Watched::new(out), Watched::new(err));
+    let machine = Machine::new(*rt, Unknown);
+    let (status, _closing) = run_command(rt.alloc(), machine, words, &mut outputs);
+    status.number()
+}
+
 /// Does the command of these words.
 fn command(rt: &HostRuntime, words: &str) -> Result<Printed, Unplayed> {
     let alloc = rt.alloc();
@@ -40,7 +57,7 @@ fn command(rt: &HostRuntime, words: &str) -> Result<Printed, Unplayed> {
     }
     let mut out = Vec::new(alloc);
     let mut err = Vec::new(alloc);
-    let status = line(rt, list, &mut out, &mut err);
+    let status = status_of(rt, &list, &mut out, &mut err);
     Ok(Printed { out, err, status })
 }
 
