@@ -5,6 +5,9 @@
 //! module, separate from each other and from its heap.
 #![tactic(auto)]
 
+#[cfg(test)]
+mod tests;
+
 ghost use Rattle.std.specs.Prelude.{◌≡◌, ◌≢◌, ◌≤◌, IfOk, length, take, string_bytes};
 ghost use Rattle.page_check.specs.Printed.{line_of, refused_line, IsPrintedByCheck, IsPrintedByCheckOwn, IsPrintedByPublish, IsPrintedBySolve};
 
