@@ -18,7 +18,8 @@ import subprocess
 import sys
 import time
 
-from office import TOP, listed, read
+from edits import edits
+from office import TOP, read
 
 BOUND, EVERY = 25, 0.2
 TICKS = os.sysconf("SC_CLK_TCK")
@@ -28,20 +29,7 @@ KINDS = ("proof", "tests", "seed", "tries")
 @functools.cache
 def mutants(crate):
     """Of each mutant of the crate the name, and what its edits make of the files, by path."""
-    found = []
-    for path in listed(f"crates/{crate}/must-fail/*.edit"):
-        texts, file, old = {}, "", ""
-        for line in read(path).split("\n"):
-            word, _, said = line.partition(": ")
-            if word == "file":
-                file = said.strip()
-                texts.setdefault(file, read("crates", crate, file))
-            elif word == "old":
-                old = said
-            elif word in ("new", "new:"):
-                texts[file] = texts[file].replace(old, said)
-        found.append((os.path.basename(path).removesuffix(".edit"), texts))
-    return found
+    return [(edit.name, edit.texts) for edit in edits([crate], ["must-fail"])]
 
 
 def tried(pid, crate):

@@ -1,50 +1,31 @@
 #!/usr/bin/env python3
-"""Lists what a mutant shows that goes wrong, and the mutant that shows it: a function's body with one mistake, which the prover must refuse.
+"""Lists the mistakes that the prover must refuse, and the twins, right bodies of another shape that it must prove.
 
-tools/mutants.py [CRATE..]     of these crates, or of all
-tools/mutants.py --check       only whether each file says what goes wrong, and by what, and whether what it replaces stands there once
+tools/mutants.py [CRATE..]     of these crates, or of all: the crate, the edit, who tries it, and what it does
+tools/mutants.py --check       only whether each edit says what it does, and whether what it replaces stands there once
 
-A mutant makes the mistake that the line `why:` of its file names. Each line `also:` names a further one that the same edit makes.
+Who tries it: `rt ci` each mutant by itself, `mistakes.py` the others, many in one check. An edit's line `also:` names a further mistake that
+the same edit makes.
 """
-import re
+import collections
 import sys
 
-from office import listed, read
-
-
-def stands(crate, text):
-    """Whether each text that an edit replaces stands once in its file, after what the edit replaced before."""
-    files, file, old = {}, "", ""
-    for word, _, said in (line.partition(": ") for line in text.splitlines()):
-        if word == "file":
-            file = said.strip()
-            files.setdefault(file, read("crates", crate, file))
-        elif word == "old":
-            old = said
-            if files[file].count(old) != 1:
-                return False
-        elif word == "new":
-            files[file] = files[file].replace(old, said)
-    return True
+from edits import FOLDERS, edits
 
 
 def main(*crates):
     if "--help" in crates:
         sys.exit(__doc__)
     is_check = crates == ("--check",)
-    paths = listed(*(f"crates/{crate}/must-fail/*.edit" for crate in (not is_check and crates) or ["*"]))
-    shown = 0
-    for path in paths:
-        _, crate, _, name = path.removesuffix(".edit").split("/")
-        mistakes = re.findall("^(?:why|also): (.*)", read(path), re.M)
-        if len(re.findall("^why: ", read(path), re.M)) != 1:
-            sys.exit(f"{path} says what goes wrong in one line `why:`")
-        if is_check and not stands(crate, read(path)):
-            sys.exit(f"{path}: what it replaces does not stand once in its file")
-        for mistake in mistakes if not is_check else ():
-            print(f"{crate:12} {name:45} {mistake.strip()}")
-        shown += len(mistakes)
-    print(f"{shown} mistakes, shown by {len(paths)} mutants")
+    counted = collections.Counter()
+    for edit in edits(() if is_check else crates, FOLDERS):
+        if edit.fault:
+            sys.exit(f"crates/{edit.crate}/{edit.folder}/{edit.name}.edit: {edit.fault}")
+        counted[edit.folder] += 1
+        tried = {"must-fail": "rt ci", "mistakes": "mistakes.py", "twins": "twin"}[edit.folder]
+        for why in edit.whys if not is_check else ():
+            print(f"{edit.crate:12} {edit.name:45} {tried:11} {why}")
+    print("{must-fail} mutants, {mistakes} further mistakes, {twins} twins".format_map(counted))
 
 
 if __name__ == "__main__":

@@ -13,7 +13,8 @@ use Rattle.public_result.specs.declared.public.PublicFault.TheVariants.{NotMatch
 use Rattle.public_result.specs.declared.own.OwnFault.{OwnFault}
 use Rattle.public_result.specs.declared.own.OwnFault.TheVariants.{List as BadList, NotListed, Dear, Better}
 use Rattle.intake.specs.Reading.{IsReading}
-use Rattle.intake.specs.Public.{IsPublicReading, posted_rows, public_text}
+use Rattle.intake.specs.Lines.{public_text}
+use Rattle.intake.specs.Public.{IsPublicReading, posted_parts}
 use Rattle.intake.specs.declared.public_parts.PublicParts.{PublicParts}
 use Rattle.intake.specs.declared.round.RoundParts.{RoundParts}
 use Rattle.intake.specs.declared.round.RoundFault.TheVariants.{TooLarge, Line}
@@ -29,7 +30,7 @@ pub record IsPublicationOf (round : RoundParts) (printed : List ℕ) : Type 0 wh
   pub told : posted.students.items ≡ chosen round.instance.shape.students round.matching.places.items
   pub cleared : IsCleared (order round.aim) posted
   pub content : AreContent (order round.aim) posted round.instance.shape.students
-  pub is : printed ≡ public_text (posted_rows round.aim round.instance.supervisor_codes round.instance.project_codes round.instance.student_codes posted)
+  pub is : printed ≡ public_text (posted_parts round.aim round.instance.supervisor_codes round.instance.project_codes round.instance.student_codes posted)
 
 -- what is printed is the public text of this round text, whose prices prove its matching best by its aim
 pub record IsPublication (text printed : List ℕ) : Type 0 where

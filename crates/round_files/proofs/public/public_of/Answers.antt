@@ -1,7 +1,8 @@
 use Rattle.std.proofs.Common.{◌≡◌, ℕ, List, length, ap, sym, ◌∙◌, arith}
 use Rattle.std.proofs.lemmas.Result.{IfOk-weaker}
 use Rattle.spa.specs.Shape.{Shape}
-use Rattle.intake.specs.Public.{posted_rows, public_text}
+use Rattle.intake.specs.Lines.{public_text}
+use Rattle.intake.specs.Public.{posted_parts}
 use Rattle.round_files.proofs.public.public_of.Goals as goal
 
 pub publish-requires : goal.publish-requires
@@ -33,7 +34,7 @@ returns c =
       told = c.in_ok-posted.ensures.students;
       cleared = accepted.0;
       content = accepted.1;
-      is = e ∙ ap (λ (l : List (List ℕ)). public_text (posted_rows round.aim l c.project_codes.result.now c.student_codes.result.now posted)) c.supervisor_codes.ensures.codes
-          ∙ ap (λ (l : List (List ℕ)). public_text (posted_rows round.aim round.instance.supervisor_codes l c.student_codes.result.now posted)) c.project_codes.ensures.codes
-          ∙ ap (λ (l : List (List ℕ)). public_text (posted_rows round.aim round.instance.supervisor_codes round.instance.project_codes l posted)) c.student_codes.ensures.codes;
+      is = e ∙ ap (λ (l : List (List ℕ)). public_text (posted_parts round.aim l c.project_codes.result.now c.student_codes.result.now posted)) c.supervisor_codes.ensures.codes
+          ∙ ap (λ (l : List (List ℕ)). public_text (posted_parts round.aim round.instance.supervisor_codes l c.student_codes.result.now posted)) c.project_codes.ensures.codes
+          ∙ ap (λ (l : List (List ℕ)). public_text (posted_parts round.aim round.instance.supervisor_codes round.instance.project_codes l posted)) c.student_codes.ensures.codes;
     }) c.write_public.ensures.text

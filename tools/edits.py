@@ -1,0 +1,102 @@
+"""Edits of a crate's bodies: mutants, mistakes and twins, and the functions that each strikes.
+
+An edit is a file crates/CRATE/FOLDER/NAME.edit: a line `why:`, and for each text that it changes lines `file:`, `old:` and `new:`. Of `must-fail`
+`rt ci` tries each by itself; of `mistakes` and `twins` `mistakes.py` tries many in one check. A mutant and a mistake must be refused, a twin must
+be proved. A twin that says `refused:` is right, and is refused for its shape alone, as that line tells.
+"""
+import re
+
+from office import listed, read
+
+FOLDERS = ["must-fail", "mistakes", "twins"]
+FUNCTION = re.compile(r"^( *)(?:pub(?:\([a-z]+\))? )?(?:const )?(?:unsafe )?(?:extern \"C\" )?fn (\w+)")
+OWNER = re.compile(r"^(?:pub(?:\([a-z]+\))? )?(?:impl|trait)\b(.*)\{$")
+ASIDE = re.compile(r"^(?:pub )?(?:ghost )?use ")
+
+
+def bare(name):
+    """A type or a trait without what it takes."""
+    while "<" in name:
+        name = re.sub(r"<[^<>]*>", "", name)
+    return name.split("::")[-1].split()[0] if name.split() else ""
+
+
+def owner_of(head):
+    """How the prover names the block of an `impl` or a `trait`: the type, and after it the trait."""
+    head = re.sub(r"^<(?:[^<>]|<[^<>]*>)*>", "", head.replace("->", "")).split(" where ")[0].strip()
+    trait, of, kind = head.partition(" for ")
+    named = re.sub(r"(\w+)<(\w+).*", r"\1\2", trait)  # as From<AllocError>, by what it takes
+    return bare(kind) + bare(named) if of else bare(head.split(":")[0])
+
+
+class Text:
+    """A file of code: where its functions stand, by line, and how the prover names them below the crate."""
+
+    def __init__(self, path, text):
+        parts = path.removeprefix("src/").removesuffix(".rt").split("/")
+        module = [part for part in parts if part not in ("lib", "main", "mod")]
+        self.functions, owner, self.text = [], [], text
+        for number, line in enumerate(text.split("\n")):
+            block, function = OWNER.match(line), FUNCTION.match(line)
+            if block:
+                owner = [owner_of(block[1])]
+            elif line == "}":
+                owner = []
+                self.functions.append((number + 1, None))
+            if function:
+                # a method by its type alone: the prover names it by the module of the type, or of the impl of a trait
+                self.functions.append((number, "::".join([*(owner if function[1] and owner else module), function[2]])))
+
+    def at(self, position):
+        """The function in which this position stands, or nothing."""
+        line, found = self.text.count("\n", 0, position), None
+        for number, name in self.functions:
+            if number > line:
+                break
+            found = name
+        return found
+
+
+class Edit:
+    """A mutant, a mistake or a twin. One that stands in no function may change any."""
+
+    def __init__(self, path):
+        _, self.crate, self.folder, name = path.split("/")
+        self.name, self.pairs, self.texts, self.struck, self.fault = name.removesuffix(".edit"), [], {}, set(), None
+        said = {"why": [], "also": [], "refused": []}
+        file = old = ""
+        for line in read(path).split("\n"):
+            word, _, rest = line.partition(":")
+            rest = rest.removeprefix(" ")
+            if word in said:
+                said[word].append(rest.strip())
+            elif word == "file":
+                file = rest.strip()
+            elif word == "old":
+                old = rest
+            elif word == "new":
+                self.pairs.append((file, old, rest))
+        self.whys, self.is_refused_for_shape = [*said["why"], *said["also"]], bool(said["refused"])
+        self.is_twin = self.folder == "twins"
+        self.wanted = "proved" if self.is_twin and not self.is_refused_for_shape else "refused"
+        if len(said["why"]) != 1:
+            self.fault = "it says what goes wrong in one line `why:`"
+        for file, old, new in self.pairs:
+            text = self.texts.get(file) or read("crates", self.crate, file)
+            if text.count(old) != 1:
+                self.fault = f"its old text stands in {file} {text.count(old)} times"
+                return
+            at = text.index(old)
+            # an import, or a function that is put before another one, strikes nothing
+            if not ASIDE.match(old) and not (FUNCTION.match(old) and new.endswith(old)):
+                self.struck.add(Text(file, text).at(at + len(old) - len(old.lstrip())))
+            self.texts[file] = text.replace(old, new)
+        self.is_anywhere = not self.struck or None in self.struck
+        # edits of one part may stand in one round
+        self.part = ()
+        self.struck.discard(None)
+
+
+def edits(crates, folders):
+    """The edits of these crates, or of all, in these folders."""
+    return [Edit(path) for path in listed(*(f"crates/{crate}/{folder}/*.edit" for crate in crates or ["*"] for folder in folders))]
