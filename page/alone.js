@@ -3,8 +3,13 @@
 // gives the answers and the file after them. The file stands in the browser's storage before a change is told.
 const EMPTY = { file: new Uint8Array(), turn: 0, copied: 0 }; // the bytes; how often they were changed; at which of these a copy was saved
 const MOST_REQUESTS = 100; // of a stream
+const WORKERS = Math.min(4, navigator.hardwareConcurrency || 2); // so many streams are read side by side
 const ELSEWHERE = 423;
-const here = { office: EMPTY, isOurs: false, keeps: undefined };
+const here = { office: EMPTY, isOurs: false, keeps: undefined, known: new Map() }; // known: what was read of this office, by its path
+function has(office) {
+  if (office.turn !== here.office.turn) here.known.clear();
+  here.office = office;
+}
 Object.assign(REFUSALS, {
   1: ["Memory", "The browser had no memory left.", "Close other pages and programs, and send it again."],
   2: ["Storage", "The browser has not stored it: its storage is full, or it stores nothing here.",
@@ -16,12 +21,12 @@ Object.assign(SERVER, {
   502: "The proved code in this page has failed. Load the page again: what was told stands, and nothing else was changed.",
 });
 
-// The proved code, in a worker: so the page stays alive. Each call has an instance of its own: one that is cut off leaves nothing for the next.
+// The proved code, in workers: so the page stays alive. Each call has an instance of its own: one that is cut off leaves nothing for the next.
 function works() {
   const NO_ROOM = 255, MOST_ROOM = 1 << 26;
   let compiled;
   async function called(file, stream, room) {
-    const { memory, page_room, page_office } = (await WebAssembly.instantiate(await compiled, {})).exports;
+    const { memory, page_room, page_office } = (await WebAssembly.instantiate(compiled, {})).exports;
     const rooms = [file.length, stream.length, room, file.length + room, 16].map(length => [page_room(BigInt(length || 1)), BigInt(length)]);
     if (rooms.some(([at]) => !at)) return { status: 1 };
     // memory grows in a call: its buffer is another then
@@ -36,32 +41,36 @@ function works() {
     return { status: 0, answers, left };
   }
   onmessage = async ({ data: { module, file, stream } }) => {
-    if (module) { compiled = WebAssembly.compile(module); return; }
+    if (module) { compiled = module; return; }
     try { postMessage(await called(file, stream, 1 << 22)); } catch (fault) {
       postMessage(fault instanceof RangeError ? { status: 1 } : { fault: String(fault) });
     }
   };
 }
-const worker = (async () => {
+const office = (async () => {
   const packed = new Blob([Uint8Array.from(atob(OFFICE), it => it.charCodeAt(0))]).stream().pipeThrough(new DecompressionStream("gzip"));
-  const module = await new Response(packed).arrayBuffer();
-  const it = new Worker(URL.createObjectURL(new Blob([`(${works})()`], { type: "text/javascript" })));
-  it.postMessage({ module });
-  return it;
+  return WebAssembly.compile(await new Response(packed).arrayBuffer());
 })();
-let before = Promise.resolve();
-// What the proved code makes of a file and a stream: one call at a time.
-function calls(file, stream) {
-  const call = async () => {
-    const it = await worker;
-    return new Promise((done, fail) => {
+office.catch(() => {});
+async function newWorker() {
+  const it = new Worker(URL.createObjectURL(new Blob([`(${works})()`], { type: "text/javascript" })));
+  it.postMessage({ module: await office });
+  return it;
+}
+const free = Array(WORKERS).fill(undefined), turns = []; // a worker is made when it is first needed; who waits for one
+// What the proved code makes of a file and a stream.
+async function calls(file, stream) {
+  let it = free.length ? free.pop() : await new Promise(done => turns.push(done));
+  try {
+    it ??= await newWorker();
+    return await new Promise((done, fail) => {
       it.onmessage = ({ data }) => (data.fault ? fail(new Error(data.fault)) : done(data));
       it.onerror = event => fail(new Error(event.message));
       it.postMessage({ file, stream });
     });
-  };
-  before = before.then(call, call);
-  return before;
+  } finally {
+    turns.length ? turns.shift()(it) : free.push(it);
+  }
 }
 
 // The browser's storage. A change is one transaction. It is not made over a later one of another tab; where the storage was cleared
@@ -83,8 +92,9 @@ async function store(next) {
   const ended = new Promise((done, fail) => { change.oncomplete = done; change.onabort = change.onerror = () => fail(change.error ?? new Error("changed")); });
   was.onsuccess = () => ((was.result ?? EMPTY).turn <= turn ? all.put(next, "school.db") : change.abort());
   await ended;
-  here.office = next;
+  has(next);
   here.keeps ??= navigator.storage?.persist?.().then(it => { here.isKept = it; showPlace(); }, () => {});
+  if (here.copy && !isCopied()) await writeCopy();
   showPlace();
 }
 
@@ -93,7 +103,7 @@ async function store(next) {
 const forever = new Promise(() => {});
 const locks = navigator.locks ?? { request: async () => { throw new Error("no locks"); } };
 async function begin() {
-  here.office = await stored().catch(() => EMPTY);
+  has(await stored().catch(() => EMPTY));
   here.isStoring = await storage.then(() => true, () => false);
   here.isOurs = await new Promise(done => {
     locks.request("spadesk", { ifAvailable: true }, lock => { done(Boolean(lock)); return lock && forever; }).catch(() => done(true));
@@ -102,7 +112,7 @@ async function begin() {
   showPlace();
 }
 async function takeOver() {
-  here.office = await stored();
+  has(await stored());
   here.isOurs = true;
   forget();
   showPlace();
@@ -145,41 +155,53 @@ const isSame = (a, b) => a.length === b.length && a.every((byte, at) => byte ===
 let waiting = [], isServing = false;
 // The answers to some requests; fewer where one of them has ended the stream.
 async function answersTo(part) {
-  if (!here.isOurs) here.office = await stored();
+  if (!here.isOurs) has(await stored());
   const { file, turn, copied } = here.office, isRead = part.every(it => it.isRead);
   const { status, answers, left } = await calls(file, joined(part.map(it => it.message)));
   if (status) return part.map(() => refused(status));
   if (!isRead && !isSame(file, left)) {
     try { await store({ file: left, turn: turn + 1, copied }); } catch {
       const now = await stored().catch(() => EMPTY);
-      if (now.turn > turn) here.office = now;
+      if (now.turn > turn) has(now);
       return part.map(() => refused(2));
     }
   }
-  return answersIn(answers);
+  const came = answersIn(answers), last = part.findLastIndex(it => !it.isRead);
+  for (const [at, answer] of came.entries()) if (at > last && answer.status < 500) here.known.set(part[at].path, answer);
+  return came;
 }
+async function serveOne(part) {
+  try {
+    const answers = await answersTo(part);
+    if (!answers.length) throw new Error("no answer");
+    part.slice(0, answers.length).forEach((it, at) => it.done(answers[at]));
+    waiting = [...part.slice(answers.length), ...waiting];
+  } catch (fault) { for (const it of part) it.fail(fault); }
+}
+// Streams that change nothing are served side by side, any other alone.
 async function serve() {
   await begun;
   while (waiting.length) {
-    const part = waiting.splice(0, MOST_REQUESTS);
-    try {
-      const answers = await answersTo(part);
-      if (!answers.length) throw new Error("no answer");
-      part.slice(0, answers.length).forEach((it, at) => it.done(answers[at]));
-      waiting = [...part.slice(answers.length), ...waiting];
-    } catch (fault) { for (const it of part) it.fail(fault); }
+    const isRead = waiting.every(it => it.isRead), parts = [];
+    do parts.push(waiting.splice(0, MOST_REQUESTS)); while (isRead && waiting.length && parts.length < WORKERS);
+    here.isChanging = !isRead;
+    await Promise.all(parts.map(serveOne));
+    here.isChanging = false;
     await new Promise(done => setTimeout(done)); // what is asked on these answers comes into the next stream
   }
   isServing = false;
 }
 Object.assign(service, {
-  atOnce: MOST_REQUESTS,
+  isAlone: true,
+  atOnce: MOST_REQUESTS * WORKERS,
   async send(method, path, body) {
     await begun;
     const isRead = method === "GET";
     if (!isRead && !here.isOurs) return { status: ELSEWHERE, type: "", text: "" };
+    const isSure = isRead && here.isOurs && !here.isChanging && waiting.every(it => it.isRead);
+    if (isSure && here.known.has(path)) return here.known.get(path);
     return new Promise((done, fail) => {
-      waiting.push({ message: messageOf(method, path, body), isRead, done, fail });
+      waiting.push({ message: messageOf(method, path, body), path, isRead, done, fail });
       if (!isServing) { isServing = true; setTimeout(serve); }
     });
   },
@@ -195,19 +217,46 @@ function showPlace() {
   const words = !here.isStoring ? "This browser stores nothing for this file, so nothing can be changed here. Open it in another browser, or not in a private window."
     : !here.isOurs ? "Another tab of this browser has the office. Here you can read it; close the other to go on here."
     : !file.length ? "The office will be in this browser, on this computer, and nowhere else. It is empty."
-    : `The office is in this browser, on this computer, and nowhere else (${size}). ${isCopied() ? "You have saved a copy since the last change."
-      : "No copy was saved since the last change."} Whoever clears the browser’s data clears the office.`
+    : `The office is in this browser, on this computer, and nowhere else (${size}). ${here.copy ? `Each change is written to ${here.copy.name} too.`
+      : isCopied() ? "You have saved a copy since the last change." : "No copy was saved since the last change."}`
+      + " Whoever clears the browser’s data clears the office."
       + (here.isKept === false ? " The browser may clear it by itself when space is short." : "");
   byId("where").replaceChildren(el("p", {}, words), ...(here.isOurs && here.isStoring ? [rowOf(
     ...(file.length ? [button("copy", "Save a copy", saveCopy, isCopied() ? "" : "main")] : []),
+    ...(file.length && window.showSaveFilePicker && !here.copy ? [button("write", "Write it to a file …", writeOn)] : []),
     button("bring", "Open a copy …", () => byId("brought").click()),
     ...(file.length ? [] : [button("small", "Load a small school to try it", loadSmall)]))] : []));
 }
+// A copy has the office as it is; where nothing can be stored the copy is all there is.
+async function noteCopy() {
+  const copied = { ...here.office, copied: here.office.turn };
+  await store(copied).catch(() => { has(copied); showPlace(); });
+}
 async function saveCopy() {
   saved("school.db", here.office.file);
-  const copied = { ...here.office, copied: here.office.turn };
-  await store(copied).catch(() => { here.office = copied; showPlace(); }); // where nothing can be stored the copy is all there is
+  await noteCopy();
   tell(["The copy school.db was handed to the browser. Look for it among the downloads before you rely on it."]);
+}
+// Where the browser can write to a file (File System Access): from now on each change is written to the one that is chosen, once it is
+// stored. The browser puts the new bytes in the place of the old ones when all are written.
+async function writeOn() {
+  here.copy = await showSaveFilePicker({ suggestedName: "school.db" }).catch(() => undefined); // nothing was chosen
+  if (!here.copy) return;
+  await writeCopy();
+  if (here.copy) tell([`The office is in ${here.copy.name}, and each change will be written there as long as this page is open.`]);
+}
+async function writeCopy() {
+  try {
+    const to = await here.copy.createWritable();
+    await to.write(here.office.file);
+    await to.close();
+  } catch (fault) {
+    tell([`${here.copy.name} could not be written: ${fault.message} The office in this browser has the change. Save a copy.`], true);
+    here.copy = undefined;
+    showPlace();
+    return;
+  }
+  await noteCopy();
 }
 // What is in a file, in words; or why it is none of an office.
 async function contents(file) {
@@ -236,6 +285,7 @@ async function openCopy([given]) {
     + ` If ${given.name}-wal lies beside it, a program has it open: end that first, or changes are missing.`;
   if (!(await sure(question, "Open it"))) return;
   const turn = here.office.turn + 1;
+  here.copy = undefined; // that file has the other office
   try { await store({ file, turn, copied: turn }); } catch { refuse({ fault: "Storage", number: 2 }); }
   forget();
   await look();

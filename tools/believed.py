@@ -9,20 +9,26 @@ tools/believed.py --inside                  names the definitions that no public
 
 A definition is counted once, with the comment above it. Of a law what follows is counted: its premise is what a function promises. The
 closure follows the names in the clause, and then in each definition, by the `use` lines of its file, through the crates of this repository.
-Types of the program are named apart, and what stands in the libraries beneath is counted by name alone.
+Of the types that the function takes or returns, and of their fields that a view reads, it follows how their values are read (`ghost view`);
+of the traits that it is over, what they promise. Types of the program are named apart. What stands in the toolchain's libraries is counted
+apart, as far as it is written there: words that the prover itself makes have no lines.
 
 The page has its own frame: what is outside its blocks stays, and so does the order in them. A block has a file's path and then definitions
 of it. One that is new goes after the last of its file, and one on which nothing rests goes. Whoever wants one elsewhere writes `name :`
 there, on a line of its own. What is named is what the page lacks: a block for a file, or what a name from beneath means.
 """
 import difflib
+import functools
 import itertools
 import pathlib
 import re
+import shutil
+import subprocess
 import sys
 
 from office import TOP, listed, read
 
+BENEATH = pathlib.Path(shutil.which("rt") or "rt").resolve().parent.parent / "rattle"
 FILES = listed("crates/*.antt", "crates/*.rt")
 CRATES = sorted({path.split("/")[1] for path in FILES})
 NAME = r"[^\W\d][\w\-'⁺]*"
@@ -80,35 +86,90 @@ def definitions(lines):
 class File:
     """A file of definitions: its module, what it brings in, and the text of each definition with the comment above it."""
 
-    def __init__(self, path):
-        _, crate, *inside = path.removesuffix(".antt").split("/")
-        self.path, self.module = path, ".".join(["Rattle", crate, *inside])
-        text = read(path)
+    def __init__(self, path, module, text):
+        self.path, self.module = path, module
         self.brought = uses_of(text, "use")
         self.found = definitions(text.split("\n"))
 
 
+@functools.cache
+def modules():
+    """The files of definitions of the repository, by module."""
+    names = {path: ".".join(["Rattle", *path.removesuffix(".antt").split("/")[1:]]) for crate in CRATES for path in files(crate, "specs")}
+    return {module: File(path, module, read(path)) for path, module in names.items()}
+
+
+@functools.cache
+def module_beneath(module):
+    """A file of definitions of the toolchain's libraries, if it has one of this module."""
+    path = BENEATH.joinpath(*module.split(".")[1:]).with_suffix(".antt")
+    return File(str(path), module, path.read_text(encoding="utf-8")) if path.is_file() else None
+
+
+@functools.cache
+def code_items():
+    """By name, what the repository's types and traits promise: the lines that say how a type is read, or what a trait gives; the names that these
+    lines bring in; and the types of the fields that they read."""
+    found = {}
+    for path in FILES:
+        text = read(path) if "/src/" in path and path.endswith(".rt") else ""
+        brought = uses_of(text, "ghost use")
+        for block in re.finditer(r"^(?:impl\b.*\bModel for (\w+)|pub trait (\w+)).*\{\n((?:.*\n)*?)\}$", text, re.M):
+            said = re.findall(r"^    ghost (?:Value|view) = .*" if block[1] else r"^    ghost \w+: .*|^ +(?:ensures|requires) .*(?:\n +[^ f}].*)*", block[3], re.M)
+            fields = re.search(rf"struct {block[1]}\b.*\{{\n((?:.*\n)*?)\}}", text) if block[1] else None
+            read_fields = set(re.findall(r"\b\w+\.(\w+)", "\n".join(said)))
+            types = [of for name, of in re.findall(r"(\w+): (.*),", fields[1]) if name in read_fields] if fields else []
+            found[block[1] or block[2]] = path, said, {**brought, **uses_of(block[3], "ghost use")}, " ".join(types)
+    return found
+
+
 class Book:
-    """All definitions, and of those that were followed the order in which they are read, types of the program and names from beneath."""
+    """Of the definitions that were followed the order in which they are read, types of the program, and those and names from beneath."""
 
     def __init__(self):
-        self.modules = {it.module: it for crate in CRATES for it in map(File, files(crate, "specs"))}
-        self.order, self.seen, self.types, self.beneath = [], set(), set(), set()
+        self.modules = modules()
+        self.order, self.seen, self.types, self.beneath, self.lower, self.is_beneath = [], set(), set(), set(), [], False
 
     def follow(self, module, name):
         """Takes a definition and what it rests on, what it rests on first."""
         it = self.modules.get(module)
-        if ".specs.declared" in module or ".specs.contracts" in module:
+        if (".specs.declared" in module or ".specs.contracts" in module) and not self.is_beneath:
             mine = module.split(".")[1] in CRATES and not module.endswith("TheConstants")
             (self.types if mine else self.beneath).add(module.removesuffix(".TheVariants") if mine else (module, name))
         elif it is None:
-            self.beneath.add((module, name))
+            if not self.is_beneath:
+                self.beneath.add((module, name))
+            self.follow_beneath(module, name)
         elif name not in it.found and name in it.brought:
             self.follow(it.brought[name][0], it.brought[name][1] or name)
         elif name in it.found and (module, name) not in self.seen:
             self.seen.add((module, name))
             self.words("\n".join(line for line in it.found[name] if not line.strip().startswith("--")), it.brought, it)
             self.order.append((it, name))
+
+    def follow_beneath(self, module, name):
+        """Takes a definition of the toolchain's libraries and what it rests on."""
+        it, was_beneath = module_beneath(module), self.is_beneath
+        if it is None or (module, name) in self.seen:
+            return
+        self.seen.add((module, name))
+        self.is_beneath = True
+        if name in it.found:
+            self.lower.append((it, name))
+            self.words("\n".join(line for line in it.found[name] if not line.strip().startswith("--")), it.brought, it)
+        elif name in it.brought:
+            self.follow_beneath(it.brought[name][0], it.brought[name][1] or name)
+        self.is_beneath = was_beneath
+
+    def code(self, text):
+        """Takes how the types of this text are read, and what its traits promise."""
+        for name in re.findall(r"\b[A-Z]\w+", text):
+            if name in code_items() and ("code", name) not in self.seen:
+                path, said, brought, types = code_items()[name]
+                self.seen.add(("code", name))
+                self.words("\n".join(said), brought)
+                self.code(types)
+                self.order.append((types_file(path, name, said), name))
 
     def words(self, text, brought, it=None):
         for word in re.findall(rf"{NAME}(?:\.{NAME})*|◌[^\s]*◌", text):
@@ -123,8 +184,15 @@ class Book:
                     self.follow(module, rest.partition(".")[0])
 
 
+def types_file(path, name, said):
+    """How a type is read, or what a trait promises, as a file of one definition."""
+    it = File(path, None, "")
+    it.found = {name: "\n".join(said).split("\n")}
+    return it
+
+
 def clause_of(crate, function, label):
-    """The text of a clause, of a law what follows, and what its file brings in."""
+    """The text of a clause, of a law what follows; what its file brings in; and the types and traits of the function."""
     owner, _, name = function.rpartition("::")
     for text in map(read, files(crate, "src")):
         if owner and not re.search(rf"impl[^\n]*\b{owner}\b", text):
@@ -134,18 +202,26 @@ def clause_of(crate, function, label):
             for clause in re.finditer(r"ensures ?(\w*) ?\{ (.*?) \}\n", head.group(0), re.S):
                 if (clause[1] or "-") == label:
                     said = clause[2].rpartition(" → ")[2] if name.endswith("_law") else clause[2]
-                    return said, uses_of(text, "ghost use")
+                    return said, uses_of(text, "ghost use"), f"{owner} {head.group(0).partition(' ensures ')[0].partition(' requires ')[0]}"
     sys.exit(f"no clause {label} of {function} in {crate}")
 
 
-def closure(crate, function, label):
+def closure(crate, function, label, has_code=True):
+    """What a clause rests on; of code, types and traits, too, if that is asked."""
     book = Book()
-    book.words(*clause_of(crate, function, label))
+    said, brought, head = clause_of(crate, function, label)
+    book.words(said, brought)
+    if has_code:
+        book.code(head)
     return book
 
 
+def lines_of(order):
+    return sum(len(it.found[name]) for it, name in order)
+
+
 def figures(book):
-    return len(book.order), sum(len(it.found[name]) for it, name in book.order)
+    return len(book.order), lines_of(book.order)
 
 
 def show(crate, function, label):
@@ -156,21 +232,26 @@ def show(crate, function, label):
             print("\n".join(it.found[name]) + "\n")
     count, lines = figures(book)
     print(f"{count} definitions, {lines} lines", end="; ")
-    print(f"types of the program: {len(book.types)}; names of the libraries beneath: {len(book.beneath)}")
+    print(f"types of the program: {len(book.types)}; in the toolchain's libraries {len(book.lower)} definitions, {lines_of(book.lower)} lines")
 
 
 def compare():
-    row = r"^\|[^|]*\| `([\w:]+)` \*(\S+)\* of `(\w+)` " + r"\| ([\d,]+) " * 3 + r"\|$"
-    rows = re.findall(row, read("README.md"), re.M)
+    readme = read("README.md")
+    row = r"^\|[^|]*\| `([\w:]+)` \*(\S+)\* of `(\w+)` " + r"\| ([\d,]+) " * 4 + r"\|$"
+    # another toolchain may have its libraries otherwise
+    kit = subprocess.run(["rt", "version"], capture_output=True, text=True).stdout.split()
+    is_known = bool(kit) and f"`{kit[0]}`" in re.search(r"this text was proved with (\S+)", readme)[1]
+    rows = re.findall(row, readme, re.M)
     wrong, above = 0, set()
     for function, label, crate, *told in rows:
         book = closure(crate, function, label)
         more = {(it.path, name): len(it.found[name]) for it, name in book.order}
-        there = [f"{n:,}" for n in (*figures(book), sum(n for one, n in more.items() if one not in above))]
+        there = [f"{n:,}" for n in (*figures(book), sum(n for one, n in more.items() if one not in above), lines_of(book.lower))]
         above |= more.keys()
-        wrong += told != there
-        differs = "" if told == there else f"; README says {', '.join(told)}"
-        print(f"{function} {label}: {there[0]} definitions, {there[1]} lines, {there[2]} of them in no row above{differs}")
+        differs = there != told if is_known else there[:3] != told[:3]
+        wrong += differs
+        print(f"{function} {label}: {there[0]} definitions, {there[1]} lines, {there[2]} of them in no row above, {there[3]} beneath"
+              + (f"; README says {', '.join(told)}" if differs else ""))
     sys.exit("README.md is to be mended" if wrong or not rows else 0)
 
 
@@ -194,7 +275,7 @@ def on_page(book):
 
 def page(text):
     """The page with each definition as it stands in the code, and what it lacks."""
-    book = closure(*CLAUSE)
+    book = closure(*CLAUSE, has_code=False)
     wanted, lacks = on_page(book), []
     parts = []
     for part in PART.finditer(text):

@@ -8,12 +8,16 @@ import time
 from office import free_port
 
 WORDS = {
-    "url": "Navigate",
-    "sync": "ExecuteScript",
-    "element": "FindElement",
-    "click": "ElementClick",
-    "value": "ElementSendKeys",
-    "actions": "PerformActions",
+    "POST url": "Navigate",
+    "POST sync": "ExecuteScript",
+    "POST element": "FindElement",
+    "POST click": "ElementClick",
+    "POST value": "ElementSendKeys",
+    "POST actions": "PerformActions",
+    "GET window": "GetWindowHandle",
+    "POST window": "SwitchToWindow",
+    "DELETE window": "CloseWindow",
+    "POST new": "NewWindow",
 }
 PREFS = {
     "browser.download.folderList": 2,
@@ -61,10 +65,10 @@ class Firefox:
             raise SystemExit(f"page.py: {word}: {wrong['message'][:300]}")
         return value["value"] if isinstance(value, dict) and "value" in value else value
 
-    def send(self, path, body):
+    def send(self, method, path, body):
         """What a request of WebDriver answers, of those that the trials make; the path of what is done to an element has its id."""
         *of, word = path.strip("/").split("/")
-        return self.ask(WORDS[word], {**body, **({"id": of[-1]} if word in ("click", "value") else {})})
+        return self.ask(WORDS[f"{method} {word}"], {**(body or {}), **({"id": of[-1]} if word in ("click", "value") else {})})
 
     def end(self):
         self.ran.terminate()

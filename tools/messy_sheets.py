@@ -1,8 +1,11 @@
 """Sheets as schools really have them, which tools/page.py brings in. Most were made, with what is wanted, before the pages were read.
 
 Each has its kind, its bytes, all that stands in the office once it has come in, what is named before it is sent (rows that look wrong, and
-cells of which it is not clear who or what is meant), and the rows that are refused, with their reasons.
+cells of which it is not clear who or what is meant), and the rows that are refused, with their reasons. `term` makes the sheets of a whole
+school so, and the same without a mess.
 """
+import random
+
 # What the office has before: the sheets of supervisors, projects and students.
 SCHOOL = {
     "supervisors": "code,name,quota\r\nMUE,Prof. Anna Müller,3\r\nSMI,Dr John Smith,2\r\nOBR,Dr Áine O'Brien,2\r\n",
@@ -335,3 +338,70 @@ NO_SHEETS = [
     ("portal.csv", b"<html><body><table><tr><td>code</td></tr></table>", "portal.csv is a workbook"),
     ("old.csv", b"\xd0\xcf\x11\xe0\xa1\xb1\x1a\xe1" + bytes(512), "old.csv is a workbook"),
 ]
+
+GIVEN = "Ada Jörg Zoë Wei María Seán Ayşe Björn Chloé Dmitri Elif Femi Gül Hana Ines João Kiri Lars Mwai Noor".split()
+SURNAMES = (
+    "Byron Özdemir Brontë García O'Connor Çelik Ek Okafor Ionescu Sato Novák Ferreira Ngata Lindqvist Kamau Haddad Meyer Nguyen Rossi Silva "
+    "Tanaka Weiß Yılmaz Zhou Ångström"
+).split()
+KINDS_OF_WORK = "Measuring Modelling Proving Counting Sorting Drawing Hearing Mapping Naming Reading Testing Timing Tracing Weaving Weighing "
+KINDS_OF_WORK = (KINDS_OF_WORK + "Writing Folding Growing Mending Sailing").split()
+MATTERS = (
+    "bridges|rivers|old maps|primes|optics, old and new|glaciers|market prices|voting rules|bird song|crystals|neurons|tides|railways|"
+    "harvests|knots|clocks|dialects|soils|comets|queues"
+).split("|")
+
+
+def without_mess(draw, supervisors, projects, students, choices):
+    """The rows of a school by kind, as the office wants them."""
+    teachers = [[f"V{at:03}", f"Dr {GIVEN[at % 20]} {SURNAMES[at // 20 + 5 * (at % 5)]}", 5] for at in range(supervisors)]
+    offers = [[f"P{at:03}", f"{KINDS_OF_WORK[at % 20]} {MATTERS[(at // 20 + at) % 20]}", f"V{at % supervisors:03}", 2] for at in range(projects)]
+    roll = [[f"07{at:05}", f"{GIVEN[at % 20]} {SURNAMES[at // 20 % 25]}"] for at in range(students)]
+    wishes = lambda: sorted(draw.sample(offers, choices), key=lambda row: draw.random() + int(row[0][1:]) / projects)
+    lists = [[code, " ".join(row[0] for row in wishes())] for code, _ in roll]
+    return {"supervisors": teachers, "projects": sorted(offers, key=lambda row: row[2]), "students": roll, "lists": lists}
+
+
+def quoted(cell):
+    return '"' + cell.replace('"', '""') + '"' if any(sign in cell for sign in ',;"\n') else cell
+
+
+def term(supervisors, projects, students, choices):
+    """The sheets of a term: by kind the text as the office wants it, and the files that a school has, each with its kind and what its columns
+    have where that is not guessed."""
+    draw = random.Random(160)
+    rows = without_mess(draw, supervisors, projects, students, choices)
+    heads = {"supervisors": "code,name,quota", "projects": "code,name,supervisor,quota", "students": "code,name", "lists": "student,choices"}
+    clean = {kind: "".join(",".join(quoted(str(cell)) for cell in row) + "\n" for row in [[*heads[kind].split(",")], *rows[kind]]) for kind in heads}
+    names, titles = ({code: name for code, name, *_ in rows[kind]} for kind in ("supervisors", "projects"))
+    places = lambda at, quota: [f"max. {quota}", f"{quota} Studierende", str(quota)][at % 3]
+    owned = [[*row, at == 0 or row[2] != rows["projects"][at - 1][2]] for at, row in enumerate(rows["projects"])]
+    mail = lambda code, name: f"{name.split()[0][0]}.{code[-5:]}@uni.example".lower()
+    answers = [
+        [str(at + 1), "11/2/26 9:01", mail(code, dict(rows["students"])[code]), *(titles[it] for it in chosen.split()), "I would like\nto start early"]
+        for at, (code, chosen) in enumerate(rows["lists"])
+    ]
+    first = [[*row[:3], *reversed(row[3:-1]), ""] for row in answers[:9]]  # who answers twice: the last counts
+    files = [
+        ("Betreuer WS.csv", "supervisors", lines(
+            "Betreuer Abschlussarbeiten WS 2026/27;;;",
+            "Kürzel;Name;Institut;Plätze",
+            *(f"{code};{name};Physik;{places(at, quota)}" for at, (code, name, quota) in enumerate(rows["supervisors"])),
+            f"Summe;;;{5 * supervisors}",
+        ), {}),
+        ("Topics.csv", "projects", b"\xef\xbb\xbf" + lines(
+            "Supervisor,Code,Title,Places",
+            *(",".join(map(quoted, [names[owner] if is_first else "", code, title.replace(" ", "\n", int(code[1:]) % 9 == 0), str(quota)]))
+              for code, title, owner, quota, is_first in owned),
+        ), {}),
+        ("Register.csv", "students", lines(
+            "Matrikelnummer;Nachname;Vorname;E-Mail;Studiengang",
+            *(f"{code};{name.split()[1]};{name.split()[0]};{mail(code, name)};B.Sc." for code, name in rows["students"]),
+            ";;;;",
+        ), {}),
+        ("Project wishes.csv", "lists", b"\xef\xbb\xbf" + lines(
+            ",".join(["ID", "Start time", "Email", *(f"Choice {at + 1}" for at in range(choices)), "Anything else?"]),
+            *(",".join(map(quoted, row)) for row in first + answers),
+        ), {}),
+    ]
+    return clean, files

@@ -1,5 +1,6 @@
 """What the tools share: commands of the program, a `serve` that ends, counted instructions, the rows of a database, the first round, round
-texts and sheets, and a bench on which a command is run with a library before the program's own."""
+texts and sheets, a page with its hashes, and a bench on which a command is run with a library before the program's own."""
+import base64
 import contextlib
 import fnmatch
 import hashlib
@@ -41,6 +42,16 @@ COUNT = ["valgrind", "--tool=cachegrind", "--cache-sim=no", "--cachegrind-out-fi
 def read(*path):
     """The text of a file of the repository."""
     return pathlib.Path(TOP, *path).read_text(encoding="utf-8")
+
+
+def sealed(page):
+    """The page with the hashes of its style and its script."""
+    for tag in ("style", "script"):
+        inner = re.search(rf"<{tag}>(.*?)</{tag}>", page, re.S)[1]
+        page = re.sub(
+            rf"({tag}-src 'sha256-)[^']*", lambda it: it[1] + base64.b64encode(hashlib.sha256(inner.encode()).digest()).decode(), page
+        )
+    return page
 
 
 def listed(*patterns):

@@ -5,7 +5,7 @@ import { readFileSync } from "node:fs";
 const [works] = readFileSync(new URL("../page/alone.js", import.meta.url), "utf8").match(/^function works\(\) {[^]*?\n}\n/m);
 let told;
 const onmessage = new Function("postMessage", `let onmessage;\n${works}\nworks();\nreturn onmessage;`)(it => told(it));
-await onmessage({ data: { module: readFileSync(process.argv[2]) } });
+await onmessage({ data: { module: await WebAssembly.compile(readFileSync(process.argv[2])) } });
 const framed = bytes => {
   const length = Buffer.alloc(4);
   length.writeUInt32LE(bytes.length);

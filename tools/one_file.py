@@ -11,12 +11,10 @@ import base64
 import gzip
 import html
 import json
-import os
 import re
 import sys
 
-from office import EXAMPLE, TOP, read
-from page import sealed
+from office import EXAMPLE, read, sealed
 
 LINE = "// In spadesk.html page/alone.js stands here.\n"
 # what the page's policy lets it reach, and what that of the one file does
@@ -31,12 +29,12 @@ def put(text, old, new):
     return text.replace(old, new)
 
 
-def one_file(module):
-    """The page with this module in it."""
+def one_file(module, folder="page"):
+    """The page with this module in it, of the pages in a folder."""
     packed = base64.b64encode(gzip.compress(module, mtime=0)).decode()
     small = {kind: read(EXAMPLE, f"{kind}.csv") for kind in KINDS}
-    service = f'(() => {{\nconst OFFICE = "{packed}";\nconst SMALL = {json.dumps(small)};\n{read("page", "alone.js")}}})();\n'
-    page = put(put(read("page", "office.html"), LINE, service), FAR, HERE)
+    service = f'(() => {{\nconst OFFICE = "{packed}";\nconst SMALL = {json.dumps(small)};\n{read(folder, "alone.js")}}})();\n'
+    page = put(put(read(folder, "office.html"), LINE, service), FAR, HERE)
     notices = html.escape(read("packaging", "notices"), quote=False)
     page = re.sub(r'(<pre id="notices">).*?(</pre>)', lambda it: it[1] + notices + it[2], page, flags=re.S)
     return sealed(page)

@@ -1,21 +1,23 @@
 #!/usr/bin/env python3
-"""Runs the pages of page/ in a browser, behind nginx, in front of `spadesk serve`: what they show is what the program prints.
+"""Runs the pages of page/ in a browser: what they show is what the program prints.
 
-tools/page.py SPADESK [--shots FOLDER] [--seal] [--only PART,..] [--mutants]
+tools/page.py SPADESK [--one-file MODULE] [--only PART,..] [--shots FOLDER] [--seal] [--mutants] [--in-firefox] [--kills N]
 
-It needs nginx, chromium and chromedriver (Debian: chromium-driver). Further trials stand in people_pages.py and school_sheets.py; --mutants
-runs all on pages with one mistake each, of which every one must be seen.
+Without --one-file they come from nginx, in front of `spadesk serve`. With it spadesk.html is made, of MODULE that tools/page_module.py made
+of crates/page_office, and opened from disk: there are the same trials of the office's page, told once, and those of one_file_page.py.
+ELSEWHERE says which run over HTTP alone. Further trials stand in people_pages.py, school_sheets.py and posted_pages.py; --mutants runs all
+on pages with one mistake each, of which every one must be seen. --kills says how often the browser is killed, ten times if not told.
 
-It needs no other package: chromedriver is spoken to by HTTP; where one of the three is missing it says so. --shots keeps pictures of the
-pages, of which docs/office.png is one. --seal writes into the pages the hashes of their style and script, by which alone the browser takes
-them; without it other hashes are a difference. --only runs some of the parts. Three things of page/nginx.conf are others here: there is
-no certificate, and so no `ssl`; the ports; the folders.
+It needs chromium and chromedriver (Debian: chromium-driver), over HTTP nginx too, and no other package: chromedriver is spoken to by HTTP;
+where one of them is missing it says so. Where firefox-esr is installed some parts run in it too. --shots keeps pictures of the pages, of
+which docs/office.png is one. --seal writes into the pages the hashes of their style and script, by which alone the browser takes them;
+without it other hashes are a difference. --only runs some of the parts. Three things of page/nginx.conf are others here: there is no
+certificate, and so no `ssl`; the ports; the folders.
 """
 import base64
 import contextlib
 import csv
 import fnmatch
-import hashlib
 import http.client
 import io
 import json
@@ -31,7 +33,8 @@ import time
 
 from firefox import Firefox
 from nginx import plain, started
-from office import TOP, copy, free_port, read, serving
+from office import TOP, copy, free_port, read, sealed, serving
+from one_file_page import ALONE, ALONE_IN_FIREFOX, ALONE_MUTANTS, Alone, InOneFile
 from people_pages import MUTANTS, People, numbered
 from posted_pages import POSTED_MUTANTS, Posted
 from school_sheets import SHEET_MUTANTS, Sheets
@@ -70,7 +73,7 @@ OFFICE_MUTANTS = [
     ("habits", "office.html", "plans.set(head.join()", "plans.set(sheet.name", "a first row that was asked about"),
     ("habits", "office.html", "isDoubtful(at) || others", "others", "numbers under another word are asked after"),
     ("refusals", "office.html", '[el("b", {}, what), then]', "[then]", "refusal 28 "),
-    ("refusals", "office.html", "animation: go 1s linear 1s infinite;", "", "a sign while the service is slow"),
+    ("server", "office.html", "animation: go 1s linear 1s infinite;", "", "a sign while the service is slow"),
     ("mistakes", "office.html", "(size > room && found.at(-1).length)", "(false)", "long.csv, its rows"),
     ("drawn", "office.html", "const FEW = 20;", "const FEW = 200;", "folded"),
     ("drawn", "office.html", "Math.sign(order) * compare", "compare", "and back"),
@@ -78,7 +81,7 @@ OFFICE_MUTANTS = [
     ("drawn", "office.html", "[...row, rounds[at].round]", "[...row, rounds.length]", "all rounds"),
     ("drawn", "office.html", "rows.filter(row => row[at] === name)", "rows", "a page each"),
     ("drawn", "office.html", ".wide { overflow-x: auto; }", "", "the step publish, 360 px wide"),
-    ("first_round", "office.html", "return work(); };", "};", "and up again"),
+    ("server", "office.html", "return work(); };", "};", "and up again"),
 ]
 # The rows of the guide that speak of a terminal, for which the page has words of its own.
 OWN_WORDS = {2, 3, 4, 5, 6, 7, 8, 9, 12, 27, 28, 29, 30}
@@ -142,20 +145,15 @@ def ordinal(rank):
 
 SHEETS = ("habits", "traps", "exports", "messy", "long", "acts", "further")
 OFFICE = ("first_round", "term", *SHEETS, "hostile", "refusals", "mistakes", "drawn", "greatest")
-PARTS = (*OFFICE, "student", "roles", "held", "keyboard", "phone", "supervisor", "older")
-IN_FIREFOX = ("first_round", "habits", "traps", "exports", "messy", "acts", "drawn", "student", "held")
+# What runs over HTTP alone, and why.
+ELSEWHERE = {
+    "server": "a service that is down, and statuses that the web server answers in its place",
+    **{part: "pages, logins and files of the school's web server" for part in ("student", "roles", "held", "keyboard", "phone", "supervisor")},
+    "older": "the styles of all pages, of which the one file has none of its own",
+}
+IN_FIREFOX = ("first_round", "habits", "traps", "exports", "messy", "acts", "drawn", "server", "student", "held")
 PAGES = ("office.html", "student.html", "supervisor.html", "check.html")
 SERVICE, WEB, REDIRECTED, DRIVER = (free_port() for _ in range(4))
-
-
-def sealed(page):
-    """The page with the hashes of its style and its script."""
-    for tag in ("style", "script"):
-        inner = re.search(rf"<{tag}>(.*?)</{tag}>", page, re.S)[1]
-        page = re.sub(
-            rf"({tag}-src 'sha256-)[^']*", lambda it: it[1] + base64.b64encode(hashlib.sha256(inner.encode()).digest()).decode(), page
-        )
-    return page
 
 
 def config(folder):
@@ -188,10 +186,64 @@ def asked(*words, **how):
     return answer.status, answer.read().decode()
 
 
-class Browser:
-    """A browser without a window, by the words of WebDriver."""
+class Served:
+    """The pages over HTTP: nginx, in front of `spadesk serve`."""
 
-    def __init__(self, folder, is_firefox=False):
+    shown, seen, own_words = "Students and supervisors see it at once.", " Students may have seen their places.", set()
+    once_open = ""
+
+    def __init__(self, program, folder):
+        self.program, self.folder, self.service, self.web = program, folder, contextlib.ExitStack(), contextlib.ExitStack()
+
+    def renew(self):
+        """Begins with the pages and the file of nginx as they are now, and an empty database."""
+        self.end()
+        self.serve("start.db")
+        nginx = started(WEB, "nginx", "-p", self.folder, "-c", f"{self.folder}/nginx.conf")
+        self.web.callback(lambda: (nginx.terminate(), nginx.wait(timeout=60)))
+
+    def end(self):
+        self.stop()
+        self.web.close()
+
+    def address(self, path="/", user=KEEPER):
+        return f"http://{user}@127.0.0.1:{WEB}{path}"
+
+    def serve(self, database):
+        self.database = f"{self.folder}/{database}"
+        self.service.enter_context(serving(self.program, self.database, 1_000_000, SERVICE, is_read=False))
+
+    def stop(self):
+        self.service.close()
+
+    def anew(self, _, part):
+        """An empty office."""
+        self.stop()
+        for name in fnmatch.filter(os.listdir(self.folder), f"{part}.db*"):
+            os.remove(f"{self.folder}/{name}")
+        self.serve(f"{part}.db")
+        shutil.rmtree(f"{self.folder}/cache", ignore_errors=True)
+
+    def told(self, _, method, path, body=None):
+        """What a request is answered, or nothing where it is refused."""
+        status, text = asked(method, path, body=body and body.encode())
+        return None if status != 200 else json.loads(text) if text.startswith("{") else text
+
+    def copied(self, _, to):
+        """A copy of the database as it is now, with its log."""
+        return copy(self.database, to)
+
+    def sent(self, _):
+        """How many imports were asked for."""
+        with open(f"{self.folder}/asked") as file:
+            return file.read().count('"POST /imports/')
+
+
+class Browser:
+    """A browser without a window, by the words of WebDriver, and the office whose pages it opens."""
+
+    def __init__(self, folder, office, is_firefox=False):
+        self.folder, self.office = folder, office
         self.firefox = Firefox(folder) if is_firefox else None
         if is_firefox:
             return
@@ -212,7 +264,7 @@ class Browser:
 
     def send(self, method, path, body=None):
         if self.firefox:
-            return self.firefox.send(path, body)
+            return self.firefox.send(method, path, body)
         connection = http.client.HTTPConnection("127.0.0.1", DRIVER, timeout=180)
         connection.request(method, self.path + path, json.dumps(body) if method == "POST" else None, {"Content-Type": "application/json"})
         value = json.loads(connection.getresponse().read())["value"]
@@ -240,8 +292,14 @@ class Browser:
                 return
         raise SystemExit("page.py: the page stays busy")
 
-    def go(self, path="/", user=KEEPER):
-        self.send("POST", "/url", {"url": f"http://{user}@127.0.0.1:{WEB}{path}"})
+    def go(self, *at):
+        self.send("POST", "/url", {"url": self.office.address(*at)})
+        self.rest()
+        self.run(self.office.once_open)
+
+    def give(self, css, file):
+        """A file for a field that is not seen."""
+        self.send("POST", f"/element/{self.found(css)}/value", {"text": file})
         self.rest()
 
     def reveal(self, css):
@@ -300,42 +358,43 @@ class Browser:
         return self.send("POST", "/goog/cdp/execute", {"cmd": word, "params": more})
 
     def errors(self):
-        """What the browser's console has, but the statuses of refusals."""
-        return [it["message"] for it in self.send("POST", "/se/log", {"type": "browser"}) if "Failed to load resource" not in it["message"]]
+        """What the browser's console has, but the statuses of refusals, and that it does not ask nobody whether to leave."""
+        said = [it["message"] for it in self.send("POST", "/se/log", {"type": "browser"})]
+        return [it for it in said if "Failed to load resource" not in it and "show a 'beforeunload'" not in it]
 
 
-class Trial(People, Sheets, Posted):
+class Trial(People, Sheets, Posted, Alone):
     REDIRECTED = REDIRECTED
-    answer_to, asked, ordinal, sealed = map(staticmethod, (answer_to, asked, ordinal, sealed))
-    KEEPER, PAGES = KEEPER, PAGES
+    answer_to, asked, ordinal = map(staticmethod, (answer_to, asked, ordinal))
+    KEEPER, PAGES, Browser = KEEPER, PAGES, Browser
 
-    def __init__(self, program, folder, shots):
-        self.program, self.folder, self.shots, self.came = program, folder, shots, []
+    def __init__(self, program, folder, office, shots, kills):
+        self.program, self.folder, self.office, self.shots, self.many, self.came = program, folder, office, shots, kills, []
 
     def check(self, name, told, wanted=True):
         self.came.append((name, told, wanted))
         print(f"{name}: {'as wanted' if told == wanted else f'{told!r}, and not {wanted!r}'}", flush=True)
 
-    def serve(self, database):
-        self.database = f"{self.folder}/{database}"
-        self.served = contextlib.ExitStack()
-        self.served.enter_context(serving(self.program, self.database, 1_000_000, SERVICE, is_read=False))
-
-    def stop(self):
-        self.served.close()
-
-    def anew(self, database):
-        self.stop()
-        left = [*fnmatch.filter(os.listdir(self.folder), f"{database}*"), *(f"saved/{it}" for it in os.listdir(f"{self.folder}/saved"))]
-        for name in left:
-            os.remove(f"{self.folder}/{name}")
-        self.serve(database)
-        shutil.rmtree(f"{self.folder}/cache", ignore_errors=True)
+    def anew(self, part):
+        """The page of an empty office."""
+        for name in os.listdir(f"{self.folder}/saved"):
+            os.remove(f"{self.folder}/saved/{name}")
+        self.office.anew(self.it, part)
         self.it.go()
+
+    def told(self, *request):
+        """What a request is answered, beside the page; nothing where it is refused."""
+        return self.office.told(self.it, *request)
+
+    def entry(self, path):
+        return self.told("GET", path)
+
+    def sent(self):
+        return self.office.sent(self.it)
 
     def line(self, *words, either=False):
         """What a line prints, of a copy of the database and its log where it has one; also what it prints as an error, if that is wanted."""
-        file = copy(self.database, f"{self.folder}/copy.db")
+        file = self.office.copied(self.it, f"{self.folder}/copy.db") if "DB" in words else ""
         ran = subprocess.run([*self.program, *(file if it == "DB" else it for it in words)], capture_output=True, text=True)
         return ran.stdout + (ran.stderr if either else "")
 
@@ -369,7 +428,7 @@ class Trial(People, Sheets, Posted):
     def open(self):
         """Opens the next round: that is asked first."""
         self.it.press("#open")
-        if before := json.loads(asked("GET", "/rounds/1")[1]).get("placed"):
+        if before := (self.entry("/rounds/1") or {}).get("placed"):
             final = f"Round 1 can then not be reopened: its {before} places are final." if before > 1 else "its 1 place is final"
             self.check("what becomes final is said", final in self.it.text("#sure p"))
         self.it.press("#sure button.main")
@@ -416,7 +475,7 @@ class Trial(People, Sheets, Posted):
 
     def preview(self, number, students):
         """The bars of an open round."""
-        seen = json.loads(asked("GET", "/preview")[1])
+        seen = self.entry("/preview")
         caption = f"If round {number} closed now, {seen['size']} of {students} students with a list would be placed:"
         self.bars("the preview", caption, students, seen["profile"])
 
@@ -508,9 +567,10 @@ class Trial(People, Sheets, Posted):
         gone again."""
         it, best = self.it, "checked here. It is the best"
         for more, kept, words in ((1, True, best), (1, False, "supervisors, projects or quotas have changed since it was closed"), (0, False, best)):
-            asked("PUT", "/supervisors/TURING", KEEPER, json.dumps({"name": "Alan Turing", "quota": 6 + more}))
-            members = {"name": "Breaking an old cipher", "supervisor": "TURING", "quota": 3 + more}
-            asked("PUT", "/projects/CIPHER", KEEPER, json.dumps(members))
+            self.does(
+                ("PUT", "/supervisors/TURING", {"name": "Alan Turing", "quota": 6 + more}),
+                ("PUT", "/projects/CIPHER", {"name": "Breaking an old cipher", "supervisor": "TURING", "quota": 3 + more}),
+            )
             if not kept:
                 it.run("localStorage.clear()")
             it.go()
@@ -597,15 +657,14 @@ class Trial(People, Sheets, Posted):
         self.preview(1, 20)
         self.check("its aim", f"it takes one with {AIMS['greedy']}" in it.text("#doing"))
         it.press("#text1")
-        self.check("its text", self.saved("round1.txt").decode(), asked("GET", "/roundtext")[1])
+        self.check("its text", self.saved("round1.txt").decode(), self.entry("/roundtext"))
         self.shot("open")
         it.press("#close-round")
         it.press("#sure button:not(.main)")
         self.check("not closed", it.text("#state").startswith("Round 1 is open"))
         it.press("#close-round")
         places = "20 of 20 students, 14 with the 1st choice, 4 with the 2nd choice, 2 with the 3rd choice"
-        words = "Students and supervisors see it at once. They keep their places in later rounds. "
-        words += "As long as round 1 is the last, it can be reopened."
+        words = f"{self.office.shown} They keep their places in later rounds. As long as round 1 is the last, it can be reopened."
         self.check("the question", it.text("#sure p"), f"Close round 1? It would place {places}. {words}")
         it.press("#sure button.main")
         self.closed(1, "greedy")
@@ -648,23 +707,12 @@ class Trial(People, Sheets, Posted):
         it.press("#drawing summary")
         self.check("the same picture", self.lines(), [14, 4, 2, 0, 45])
         it.press("#reopen")
-        words = "Reopen round 1? Its placements go, and its lists stay. Another closing may place other students. "
-        words += "Students may have seen their places."
+        words = f"Reopen round 1? Its placements go, and its lists stay. Another closing may place other students.{self.office.seen}"
         self.check("the question", it.text("#sure p"), words)
         it.press("#sure button.main")
         self.check("reopened", it.text("#state"), "Round 1 is open, greedy, with 20 lists.")
         self.check("the lists", it.table()[0], ["S01", "Amina", "CIPHER CHESS LOOM"])
         self.head("lists", 1)
-        self.stop()
-        it.press("#again")
-        told = "The service cannot be reached. Wait a moment and try again: "
-        self.check("the service is down", it.text("#told").startswith(told))
-        it.choose(FIRST[1])
-        self.check("a sheet that cannot be compared", it.text("#told").startswith("The service cannot be reached"))
-        self.check("it is shown", it.text("#chosen").endswith("students, 20 rows\nRead its columns otherwise\nImport 1 file"))
-        self.serve("first_round.db")
-        it.press("#retry")
-        self.check("and up again", ("students, 20 rows: 20 as before" in it.text("#chosen"), it.text("#told")), (True, ""))
         self.check("imports sent, one of them pressed twice", self.sent() - start, 4)
 
     def term(self):
@@ -678,7 +726,7 @@ class Trial(People, Sheets, Posted):
         it.press("#asked button")
         it.write("#list input", "plates")
         it.press("#list button")
-        self.check("a list by hand", asked("GET", "/students/S11")[1], '{"list":["PLATES"],"name":"José","placed":null}')
+        self.check("a list by hand", self.entry("/students/S11"), {"list": ["PLATES"], "name": "José", "placed": None})
         it.write("#code", "S12")
         it.press("#asked button")
         self.check("not known yet", it.text("#found p"), "No student has the code S12. Fill this in to add one.")
@@ -691,9 +739,8 @@ class Trial(People, Sheets, Posted):
         self.check("the question", it.text("#sure p"), "Withdraw the list of S12? It is PRIMES DOSE.")
         it.press("#sure button.main")
         self.check("what it was", it.run("return document.querySelector('#list').elements.list.value"), "PRIMES DOSE")
-        self.check(
-            "a late student, with a list that is taken away", asked("GET", "/students/S12")[1], '{"list":null,"name":"Zoë","placed":null}'
-        )
+        late = {"list": None, "name": "Zoë", "placed": None}
+        self.check("a late student, with a list that is taken away", self.entry("/students/S12"), late)
         it.pick("#kind", "missing")
         self.check("who has no list", it.table(), [["S12", "Zoë"]])
         it.press("#close-round")
@@ -711,9 +758,9 @@ class Trial(People, Sheets, Posted):
         it.press("#sure button.main")
         it.choose(f"{folder}/withdrawn.csv")
         it.press("#send")
-        self.check("withdrawn", json.loads(asked("GET", "/projects/NEURONS")[1])["quota"], 0)
+        self.check("withdrawn", self.entry("/projects/NEURONS")["quota"], 0)
         it.choose(TERM[2])
-        asked("PUT", "/projects/PLATES", KEEPER, '{"name":"An archive of plates","supervisor":"MERIAN","quota":3}')
+        self.does(("PUT", "/projects/PLATES", {"name": "An archive of plates", "supervisor": "MERIAN", "quota": 3}))
         it.choose(TERM[2])
         self.check(
             "what an older file would change",
@@ -723,7 +770,7 @@ class Trial(People, Sheets, Posted):
         self.shot("older")
         it.press("#send")
         self.check("it is told no more", it.table("#chosen details[open]"), [])
-        self.check("an older file, chosen again, is another import", json.loads(asked("GET", "/projects/NEURONS")[1])["quota"], 2)
+        self.check("an older file, chosen again, is another import", self.entry("/projects/NEURONS")["quota"], 2)
         it.choose(f"{folder}/withdrawn.csv")
         it.press("#send")
         it.press("#close-round")
@@ -746,7 +793,7 @@ class Trial(People, Sheets, Posted):
             it.pick("#what", kind)
             it.write("#code", code)
             it.press("#asked button")
-            told = json.loads(asked("GET", f"/{kind}s/{code}")[1])
+            told = self.entry(f"/{kind}s/{code}")
             place = told["placed"]
             if kind == "project":
                 words = f"{told['name']}: {place} of {told['quota']} places taken."
@@ -782,7 +829,7 @@ class Trial(People, Sheets, Posted):
         while it.text(".mend button"):
             it.press(".mend button")
         it.press("#send")
-        read = lambda path: json.loads(asked("GET", path)[1])
+        read = self.entry
         found = [read("/supervisors/M")["quota"], read("/projects/P1"), read("/students/S3")["name"]]
         self.check("and is mended", found, [1, {"name": "Bridges", "placed": 0, "quota": 2, "supervisor": "L"}, "Cy"])
         it.choose(self.file("own.csv", "K\u00fcrzel,Titel\n"), projects)
@@ -819,7 +866,7 @@ class Trial(People, Sheets, Posted):
 
     def sides(self):
         """Both aims side by side, for the open round as it is now."""
-        text, rows = asked("GET", "/roundtext")[1].removeprefix("A,generous\n"), self.it.table("#aims")
+        text, rows = self.entry("/roundtext").removeprefix("A,generous\n"), self.it.table("#aims")
         for at, aim in enumerate(("", "A,generous\n"), 1):
             told = self.line("check", self.file("best.txt", self.line("solve", self.file("round.txt", aim + text)))).split()
             self.check(f"by the aim {at}", [row[at] for row in rows], [told[2], *told[4:]][: len(rows)])
@@ -928,7 +975,8 @@ class Trial(People, Sheets, Posted):
             for number, cells in guided(read("docs", "GUIDE.md")).items()
         }
         own = {int(number): tuple(row) for number, row in it.run("return REFUSALS").items()}
-        self.check("the words of the guide", ({number for number in guide if own.get(number) != guide[number]}, len(own)), (OWN_WORDS, 30))
+        other = {number for number in guide if own.get(number) != guide[number]}
+        self.check("the words of the guide", (other, len(own)), (OWN_WORDS | self.office.own_words, 30))
         self.check("the names", [own[number][0] for number in sorted(own)], [row[0] for row in guide.values()])
         it.choose(*(os.path.join(TOP, "examples", "refusals", f"{kind}.csv") for kind in ("supervisors", "projects", "students")))
         it.press("#send")
@@ -952,8 +1000,8 @@ class Trial(People, Sheets, Posted):
         it.press("#send")
         self.check(
             "what needs a refused sheet waits, and another does not",
-            ([asked("GET", path)[0] for path in ("/projects/R", "/students/S7")], it.text("#send")),
-            ([404, 200], "Import 3 files"),
+            ([self.entry(path) is None for path in ("/projects/R", "/students/S7")], it.text("#send")),
+            ([True, False], "Import 3 files"),
         )
         self.check(
             "both refused sheets are told",
@@ -968,7 +1016,7 @@ class Trial(People, Sheets, Posted):
             ("twice.csv", "S1,P P", 24),
         ):
             self.refused(name, f"student,choices\n{text}\n", 29, inner)
-        asked("POST", "/rounds/close")
+        self.does(("POST", "/rounds/close", None))
         it.press("#close-round")
         self.check(
             "closed by somebody else",
@@ -978,21 +1026,19 @@ class Trial(People, Sheets, Posted):
         it.choose(self.file("german.csv", "Code;Name\r\nS4;Jörg; Müller\r\n".replace("; M", ", M").encode("cp1252")))
         self.check("a sheet of Excel in German", "It is not in UTF-8" in it.text("#chosen") and "semicolons" in it.text("#chosen"))
         it.press("#send")
-        self.check("came in", asked("GET", "/students/S4")[1], '{"list":null,"name":"Jörg, Müller","placed":null}')
+        self.check("came in", self.entry("/students/S4"), {"list": None, "name": "Jörg, Müller", "placed": None})
         it.choose(self.file("large.csv", "code,name\n" + "S1,Ann\n" * 10000), self.file("other.csv", "a,b\n1,2\n"))
         told = it.text("#chosen")
         seen = ["longer than one import" in told, "has other words in its first row" in told, bool(it.text("#send"))]
         self.check("too large, and no sheet", seen, [True, True, False])
         self.open()
         it.run(
-            "const real = fetch, more = { method: 'PUT', body: '{\"choices\":[\"P\"]}' };"
-            "const list = () => real(location.origin + '/lists/S1', more);"
-            "window.fetch = async (path, more) => { if (path.endsWith('/close')) await list(); return real(path, more); }"
+            "const real = ask, list = () => real('PUT', '/lists/S1', '{\"choices\":[\"P\"]}');"
+            "window.ask = async (...it) => { if (it[1].endsWith('/close')) await list(); return real(...it); }"
         )
         it.press("#close-round")
         it.press("#sure button.main")
         self.check("a list in the midst of closing", it.text("#proofs").startswith("Round 2: checked here. It is the best"))
-        self.statuses()
 
     def looked(self, kind, name, content, rows, marks, empty=()):
         """A sheet is refused: each of its wrong rows is told with its reason, by the page and by tools/sheets.py, and nothing came in."""
@@ -1030,14 +1076,10 @@ class Trial(People, Sheets, Posted):
         with contextlib.closing(sqlite3.connect(f"{self.folder}/copy.db")) as it:
             return list(it.execute(query) if query else it.iterdump())
 
-    def sent(self):
-        with open(f"{self.folder}/asked") as file:
-            return file.read().count('"POST /imports/')
-
     def sheets(self, kind, name):
-        return subprocess.run(
-            [sys.executable, f"{TOP}/tools/sheets.py", self.program[-1], self.database, kind, name], capture_output=True, text=True
-        ).stdout
+        file = self.office.copied(self.it, f"{self.folder}/looked.db")
+        words = [sys.executable, f"{TOP}/tools/sheets.py", self.program[-1], file, kind, name]
+        return subprocess.run(words, capture_output=True, text=True).stdout
 
     def mistakes(self):
         it, head = self.it, "code,name,supervisor,quota\n"
@@ -1085,10 +1127,10 @@ class Trial(People, Sheets, Posted):
             (
                 it.text("#chosen summary").split(": ")[-1],
                 "Left out: the rows 2, 4, 5, 6, 7, 9, 10, 11, 12, 13, 14, 15, 16, 17, 18." in it.text("#chosen"),
-                asked("GET", "/projects/NEW7")[0],
-                asked("GET", "/projects/GOOD")[1],
+                self.entry("/projects/NEW7"),
+                self.entry("/projects/GOOD"),
             ),
-            ("1 imported", True, 404, '{"name":"Good","placed":0,"quota":2,"supervisor":"TURING"}'),
+            ("1 imported", True, None, {"name": "Good", "placed": 0, "quota": 2, "supervisor": "TURING"}),
         )
         start = self.sent()
         it.choose(self.file("lists.csv", "student,choices\nS01,CHES\nS02,CHESS\nS99,CHESS\n"))
@@ -1110,10 +1152,10 @@ class Trial(People, Sheets, Posted):
         self.check("left out", "Left out: the rows 2, 4, 5, 6, 7, 8, 10, 11, 12." in it.text("#chosen"))
         self.check(
             "the last of them counts, and none before a refused one",
-            [json.loads(asked("GET", f"/students/{code}")[1])["list"] for code in ("S02", "S07", "S08")],
+            [self.entry(f"/students/{code}")["list"] for code in ("S02", "S07", "S08")],
             [["LOOM"], None, ["LOOM"]],
         )
-        asked("PUT", "/lists/S09", KEEPER, '{"choices":["CHESS","LOOM"]}')
+        self.does(("PUT", "/lists/S09", {"choices": ["CHESS", "LOOM"]}))
         it.choose(self.file("lists.csv", "student,choices\nS02,CHESS\nS10,LOOM\n,\nS09,CHESS LOOM\nS08,LOOM CHESS\n"))
         self.check(
             "what lists would change",
@@ -1176,8 +1218,8 @@ class Trial(People, Sheets, Posted):
         self.room(1)
         # No answer in the midst of the asking, and an office that has kept 200 imports.
         it.run(
-            "const real = fetch; let asked = 0; const isLost = path => path.includes('/LOOK-') && ++asked > 2;"
-            "window.fetch = (path, more) => (isLost(path) ? Promise.reject(new TypeError()) : real(path, more))"
+            "const real = ask; let asked = 0; const isLost = path => path.includes('/LOOK-') && ++asked > 2;"
+            "window.ask = (...it) => (isLost(it[1]) ? Promise.reject({ fault: 'no answer' }) : real(...it))"
         )
         it.choose(self.file("lost.csv", "code,name\ns1,Name\ns2,Name\ns3,Name\nS91,Name\n"))
         it.press("#send")
@@ -1187,7 +1229,7 @@ class Trial(People, Sheets, Posted):
             ("2 rows of lost.csv are refused, and there may be more.", ["2", "3"], None),
         )
         for at in range(200):
-            asked("POST", f"/imports/students/N{at}", body="code,name\n")
+            self.told("POST", f"/imports/students/N{at}", "code,name\n")
         time.sleep(1)  # nginx writes down a request after it was answered
         start = self.sent()
         self.refused("lost.csv", "code,name\ns1,Name\nS91,Name\n", 12)
@@ -1212,7 +1254,7 @@ class Trial(People, Sheets, Posted):
         ]
         self.check(f"places left in round {number}", [[row[0], *row[3:]] for row in self.it.table()], wanted)
         self.head("room", number)
-        read = lambda path: json.loads(asked("GET", path)[1])
+        read = self.entry
         found = [read(f"/projects/{code}") for code, *_ in wanted]
         names = [[it["name"], read(f"/supervisors/{it['supervisor']}")["name"]] for it in found]
         self.check("the names of their projects and supervisors", [row[1:3] for row in self.it.table()], names)
@@ -1291,6 +1333,24 @@ class Trial(People, Sheets, Posted):
         self.reports(1)
         self.proof(1)
 
+    def server(self):
+        """A service that is down, and what is told where the web server answers in its place."""
+        it = self.it
+        self.school()
+        self.does(("POST", "/rounds", None))
+        it.go()
+        self.office.stop()
+        it.press("#again")
+        told = "The service cannot be reached. Wait a moment and try again: "
+        self.check("the service is down", it.text("#told").startswith(told))
+        it.choose(FIRST[1])
+        self.check("a sheet that cannot be compared", it.text("#told").startswith("The service cannot be reached"))
+        self.check("it is shown", it.text("#chosen").endswith("students, 20 rows\nRead its columns otherwise\nImport 1 file"))
+        self.office.serve("server.db")
+        it.press("#retry")
+        self.check("and up again", ("students, 20 rows: 20 as before" in it.text("#chosen"), it.text("#told")), (True, ""))
+        self.statuses()
+
     def statuses(self):
         """What is told where the web server answers in the place of the service."""
         for status, words in (
@@ -1328,12 +1388,12 @@ class Trial(People, Sheets, Posted):
         self.check("without a name for a reader", without, [])
 
     def all(self, parts, is_firefox=False):
-        self.it = Browser(self.folder, is_firefox)
+        self.it = Browser(self.folder, self.office, is_firefox)
         try:
             self.it.go()
             for part in parts:
                 print(f"-- {part}")
-                self.anew(f"{part}.db")
+                self.anew(part)
                 getattr(self, part)()
                 self.named()
                 if not is_firefox:
@@ -1343,8 +1403,19 @@ class Trial(People, Sheets, Posted):
             self.it.end()
 
 
+def parts_of(words, module):
+    """The parts that run in Chromium, and those in Firefox."""
+    here = (*OFFICE, *(ALONE if module else ELSEWHERE))
+    if "--only" in words:
+        wanted = words[words.index("--only") + 1].split(",")
+        return ((), wanted) if "--in-firefox" in words else (wanted, ())
+    second = [it for it in (*IN_FIREFOX, *ALONE_IN_FIREFOX) if it in here] if shutil.which("firefox-esr") else ()
+    return () if "--in-firefox" in words else here, second
+
+
 def main(*words):
-    shots = words[words.index("--shots") + 1] if "--shots" in words else None
+    of = lambda word, other=None: words[words.index(word) + 1] if word in words else other
+    module = of("--one-file")
     for name in PAGES:
         page = read("page", name)
         if "--seal" in words and sealed(page) != page:
@@ -1352,12 +1423,12 @@ def main(*words):
                 file.write(sealed(page))
         elif sealed(page) != page:
             sys.exit(f"page.py: {name} has other hashes than its style and script: --seal writes them")
-    missing = [it for it in ("nginx", "chromium", "chromedriver") if not shutil.which(it)]
+    missing = [it for it in ("chromium", "chromedriver", *(() if module else ("nginx",))) if not shutil.which(it)]
     if missing:
         print(f"there is no {missing[0]} here: the pages were not tried")
         return
     program = [sys.executable, words[0]] if words[0].endswith(".py") else [os.path.abspath(words[0])]
-    with tempfile.TemporaryDirectory() as folder:
+    with tempfile.TemporaryDirectory(ignore_cleanup_errors=True) as folder:
         os.mkdir(f"{folder}/saved")
         shutil.copytree(f"{TOP}/page", f"{folder}/page")
         for name, text in (
@@ -1368,37 +1439,27 @@ def main(*words):
         ):
             with open(f"{folder}/{name}", "w") as file:
                 file.write(text)
-        trial, running = Trial(program, folder, shots), []
-
-        def end():
-            it = running.pop()
-            it.terminate()
-            it.wait(timeout=60)
-
-        def web():
-            """Starts nginx, or ends it and starts it anew."""
-            if len(running) == 2:
-                end()
-            running.append(started(WEB, "nginx", "-p", folder, "-c", f"{folder}/nginx.conf"))
-
-        trial.serve("start.db")
+        office = InOneFile(module, folder) if module else Served(program, folder)
+        trial, (parts, second) = Trial(program, folder, office, of("--shots"), int(of("--kills", 10))), parts_of(words, module)
+        driver = started(DRIVER, "chromedriver", f"--port={DRIVER}", stdout=subprocess.DEVNULL)
         try:
-            running.append(started(DRIVER, "chromedriver", f"--port={DRIVER}", stdout=subprocess.DEVNULL))
-            web()
-            parts = words[words.index("--only") + 1].split(",") if "--only" in words else PARTS
+            office.renew()
             if "--mutants" in words:
-                trial.mutants(sealed, web, [it for it in OFFICE_MUTANTS + SHEET_MUTANTS + POSTED_MUTANTS + MUTANTS if it[0] in parts])
+                own = ALONE_MUTANTS if module else OFFICE_MUTANTS + SHEET_MUTANTS + POSTED_MUTANTS + MUTANTS
+                trial.mutants([it for it in own if it[0] in parts])
             else:
-                if "--in-firefox" not in words:
+                if parts:
                     trial.all(parts)
-                if "--only" not in words and shutil.which("firefox-esr"):
-                    trial.all(IN_FIREFOX, is_firefox=True)
+                if second:
+                    trial.all(second, is_firefox=True)
         finally:
-            trial.stop()
-            while running:
-                end()
+            office.end()
+            driver.terminate()
+            driver.wait(timeout=60)
     failed = [it for it in trial.came if it[1] != it[2]]
     print(f"{len(trial.came)} trials, {len(failed)} otherwise")
+    for name, told, wanted in failed:
+        print(f"otherwise: {name}: {told!r}, and not {wanted!r}")
     if failed:
         sys.exit(1)
 

@@ -25,8 +25,7 @@ import subprocess
 import sys
 import tempfile
 
-from office import TOP, read
-from page import sealed
+from office import TOP, read, sealed
 
 CRATE, EXPORTS, PAGES = "page_check", ("page_room", "page_check", "page_solve", "page_publish", "page_own"), ("office.html", "check.html")
 # A module: its crate, what it gives, the pages that have it, the C files next to it, how clang optimizes it, and what it may call besides

@@ -12,7 +12,7 @@ import re
 import shutil
 import time
 
-from office import read
+from office import read, sealed
 
 STUDENT, SUPERVISOR = "S02:s02", "HOPPER:hopper"
 KEYS = {"Tab": "\ue004", "Enter": "\ue007", "Shift": "\ue008", "Escape": "\ue00c"}
@@ -140,14 +140,13 @@ class People:
     def school(self):
         """Brings in the first round of the examples."""
         for kind in ("supervisors", "projects", "students"):
-            self.asked("POST", f"/imports/{kind}/{kind[:2].upper()}", body=read("examples", "first-round", f"{kind}.csv").encode())
+            self.told("POST", f"/imports/{kind}/{kind[:2].upper()}", read("examples", "first-round", f"{kind}.csv"))
 
     def does(self, *requests):
         """What the office asks for, which must be done."""
         for method, path, body in requests:
-            status, told = self.asked(method, path, body=json.dumps(body) if body else None)
-            if status != 200:
-                raise SystemExit(f"page.py: {method} {path}: {told}")
+            if self.told(method, path, json.dumps(body) if body else None) is None:
+                raise SystemExit(f"page.py: {method} {path} is refused")
 
     def listed(self):
         """The list that the office has of the student."""
@@ -502,7 +501,7 @@ class People:
         for name in self.PAGES:
             path = pathlib.Path(self.folder, "page", name)
             whole[path] = path.read_text(encoding="utf-8")
-            path.write_text(self.sealed(re.sub(r"light-dark\(|color-mix\(|:has\(", "unknown(", whole[path])), encoding="utf-8")
+            path.write_text(sealed(re.sub(r"light-dark\(|color-mix\(|:has\(", "unknown(", whole[path])), encoding="utf-8")
         for path, user in (("/", self.KEEPER), ("/student/", STUDENT), ("/supervisor/", SUPERVISOR), ("/check.html", self.KEEPER)):
             it.go(path, user)
             for scheme in ("light", "dark"):
@@ -580,19 +579,17 @@ class People:
         it.chrome("Emulation.setEmulatedMedia", media="")
 
 
-    def mutants(self, sealed, web, mutants):
+    def mutants(self, mutants):
         """Whether each mutant is seen by the trial that it is for."""
         for part, name, old, new, wanted in mutants:
-            path = pathlib.Path(self.folder, "page" if name.endswith(".html") else "", name)
+            path = pathlib.Path(self.folder, "" if name == "nginx.conf" else "page", name)
             text = path.read_text(encoding="utf-8")
             if text.count(old) != 1:
                 raise SystemExit(f"page.py: a mutant's place stands {text.count(old)} times in {name}: {old}")
             changed = text.replace(old, new)
             came, self.came = self.came, []
             path.write_text(sealed(changed) if name.endswith(".html") else changed, encoding="utf-8")
-            web()
-            self.stop()
-            self.serve("start.db")
+            self.office.renew()
             ended = None
             with contextlib.redirect_stdout(io.StringIO()):
                 try:

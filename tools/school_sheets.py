@@ -2,7 +2,6 @@
 
 No sheet makes an entry that nobody meant, what forms and course systems export comes in, and no act goes wrong by one press.
 """
-import json
 import random
 import re
 
@@ -60,10 +59,6 @@ class Sheets:
         for key, place in columns.items():
             self.it.pick(f".asked [name='{place}']", key.replace("_", " "))
         self.it.press(".asked button.main")
-
-    def entry(self, path):
-        status, told = self.asked("GET", path)
-        return json.loads(told) if status == 200 else None
 
     def chosen(self, name, content):
         self.it.choose(self.file(name, content))
@@ -193,7 +188,7 @@ class Sheets:
         self.read_so("projects")
         self.check("before the first round", {row[3] for row in it.table(".lost")}, {"choose the sheet of supervisors with this one"})
         for name, kind, content, *wanted, columns in MESSY:
-            self.anew("messy.db")
+            self.anew("messy")
             files = [self.file(f"{before}.csv", SCHOOL[before]) for before in NEEDS[kind]]
             if kind == "lists":
                 it.choose(*files)
@@ -264,8 +259,8 @@ class Sheets:
         )
         it.go()
         it.press("#close-round")
-        words = "1 student with a list would have no place. 1 student without a list can get none. Students and supervisors see it at once."
-        self.check("what closing would leave", words in it.text("#sure p"))
+        words = "1 student with a list would have no place. 1 student without a list can get none."
+        self.check("what closing would leave", f"{words} {self.office.shown}" in it.text("#sure p"))
         self.fits("a final question")
         self.check("the harmless button has the focus", it.run(FOCUS), "Not now")
         if not it.firefox:
@@ -321,7 +316,7 @@ class Sheets:
         )
         it.go()
         it.press("#help")
-        text, places = self.asked("GET", "/roundtext")[1], [(None, by) for by in "AB"] + [(code, None) for code in offers]
+        text, places = self.entry("/roundtext"), [(None, by) for by in "AB"] + [(code, None) for code in offers]
         worth = {place: self.worth(text, *place) for place in [(None, None), *places, *((code, by) for code, (by, _) in offers.items())]}
         alone = lambda what, by: max(worth[what, None], worth[None, by])
         helps = {place: it for place, it in worth.items() if it > (worth[None, None] if None in place else alone(*place))}
@@ -335,7 +330,7 @@ class Sheets:
         more = [sum(max(it[0] - worth[None, None][0], 0) for place, it in helps.items() if said(*place) == row[0]) for row in rows]
         told = [re.match(r"(?:(\d+) more student)?", row[1])[1] for row in rows]
         self.check("more students", [int(it or 0) for it in told], more)
-        self.check("and it changes nothing", self.asked("GET", "/roundtext")[1], text)
+        self.check("and it changes nothing", self.entry("/roundtext"), text)
 
     def worth(self, text, what=None, by=None):
         """What the round is worth with one place more, generous: the students, and then the fewest at the last ranks."""
