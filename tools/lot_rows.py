@@ -1,7 +1,7 @@
 #!/usr/bin/env python3
 """Prints rows of rounds that have many best matchings, and whom the lot gives which place.
 
-tools/lot_rows.py > crates/school/data/lot.rows
+tools/lot_rows.py > crates/scenarios/data/lot.rows
 
 Who has which place comes from `weighed` of tools/lot.py, which knows the rule of docs/FORMATS.md ("The lot") and nothing else of this
 repository. Each round is closed as the round of a database; the small ones are also solved as a text.

@@ -7,8 +7,8 @@ tools/openapi.py --only-valid     only says whether the document is valid
 Each example is sent over loopback to `serve` on a database of its own, after the requests that it comes after. Status, type and
 body of the answer must be those of the example, byte by byte.
 
-The routes come from crates/api/specs, the refusals from crates/rolls/src/refusal.rt, and which of them a request may get, in which
-order, from crates/rolls/specs (Tests.antt, Meaning.antt, Refusing.antt). So a further one is missed here until the document has it: each
+The routes come from crates/http_api/specs, the refusals from crates/office_model/src/refusal.rt, and which of them a request may get, in which
+order, from crates/office_model/specs (Tests.antt, Meaning.antt, Refusing.antt). So a further one is missed here until the document has it: each
 method of each path needs an example of its success and of each refusal of its own, and each refusal that can be brought about an example.
 
 The document is also held against the public validator, openapi-spec-validator, where that is installed, and its examples against
@@ -54,7 +54,7 @@ METHODS = ("get", "put", "post", "delete")
 
 def refusals():
     """Each refusal by its name: its number and its status."""
-    text = read("crates", "rolls", "src", "refusal.rt")
+    text = read("crates", "office_model", "src", "refusal.rt")
     rows = re.findall(r"Refusal::\w+(?: \{ \.\. \})? => RefusalRow \{ number: (\d+), status: (\d+), name: \"(\w+)\"", text)
     variants = re.findall(r"^    /// (\d+): ", text, re.M)
     if [number for number, _, _ in rows] != variants:
@@ -64,7 +64,7 @@ def refusals():
 
 def own_refusals():
     """What each request may be refused, in the order in which it is looked for."""
-    text = "\n\n".join(read("crates", "rolls", "specs", name) for name in ("Tests.antt", "Meaning.antt", "Refusing.antt"))
+    text = "\n\n".join(read("crates", "office_model", "specs", name) for name in ("Tests.antt", "Meaning.antt", "Refusing.antt"))
     tests = dict(re.findall(r"^(\w+_tests) [^=\n:]*=(.*?)(?=\n\n|\Z)", text, re.M | re.S))
 
     def named(body, within=()):
@@ -81,9 +81,9 @@ def own_refusals():
 
 def routes():
     """The form and the request of each method and path; `{}` stands for the parameter."""
-    text = read("crates", "api", "specs", "Routes.antt")
+    text = read("crates", "http_api", "specs", "Routes.antt")
     known = dict(re.findall(r"^called \(?(call\.\w+).*? = request\.(?:Plain \(?plain\.)?(\w+)", text, re.M))
-    known |= dict(re.findall(r"^put_by (put\.\w+) .*?\bplain\.(\w+)", read("crates", "api", "specs", "Requests.antt"), re.M))
+    known |= dict(re.findall(r"^put_by (put\.\w+) .*?\bplain\.(\w+)", read("crates", "http_api", "specs", "Requests.antt"), re.M))
     kinds = {
         name: (params.split(), dict(re.findall(r"(\w+) = Some \(?(\w[^;)]*)", fields)))
         for name, params, fields in re.findall(r"^(\w+)((?: \w+)*) = record \{ (segments = .*) \}$", text, re.M)

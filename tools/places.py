@@ -11,7 +11,7 @@ import sys
 
 from office import listed, read
 
-TESTS = ("rows", "rules", "test_support", "desk_tests", "school")
+TESTS = ("testing", "rule_tests", "desk_tests", "scenarios")
 PART = re.compile(r"crates/(\w+)/(?:src|specs|proofs)/.*\.(?:rt|antt)")
 ASIDE = re.compile(r"\s*(--|//|(ghost )?(pub )?use )")
 

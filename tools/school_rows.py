@@ -1,7 +1,7 @@
 #!/usr/bin/env python3
 """Prints rows of a school at all limits at once, through twelve rounds, and what each must print.
 
-tools/school_rows.py > crates/school/data/full.rows
+tools/school_rows.py > crates/scenarios/data/full.rows
 
 There are 100 supervisors, 400 projects and 500 students, with codes and names at their longest, lists of twelve, and 200 imports, of which
 those with records have 65,536 bytes. What is expected comes from the books that are kept here, as docs/FORMATS.md says, and who is placed is

@@ -12,7 +12,7 @@ They run from the top to the end in a folder of their own, beside the files of t
 With --write the text shows what was printed. After each command, and once `serve` has ended, a copy of the database file alone is held
 beside one with its log: each report on each must be the same, and each row that SQLite reads.
 
-The commands of the first round, and what is served there, are also rows of the gate, crates/school/data/walkthrough.rows, which have the
+The commands of the first round, and what is served there, are also rows of the gate, crates/scenarios/data/walkthrough.rows, which have the
 texts of the example for their own. Here each of them is compared with the example, file by file, command by command and request by
 request, up to the title behind which there are no rows.
 """
@@ -32,7 +32,7 @@ import nginx
 import texts
 from office import TOP, copy, line, read, rows, written
 
-ROWS = os.path.join(TOP, "crates", "school", "data", "walkthrough.rows")
+ROWS = os.path.join(TOP, "crates", "scenarios", "data", "walkthrough.rows")
 FIRST = "examples/first-round/README.md"
 UNTESTED = "\n## Anyone can check it\n"
 

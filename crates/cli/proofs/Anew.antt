@@ -3,12 +3,12 @@ use Rattle.std.proofs.Common.{◌≡◌, inl, inr, ℕ, List, [], Option, Some, 
 use Rattle.cli.proofs.Common.{Database, State, empty, Opens, DeskState, AnswersMessage, AtDesk, at_desk, end_text, just_opened}
 use Rattle.sqlite.specs.Schema.{Schema}
 use Rattle.sqlite_schema.specs.Names.{table_named}
-use Rattle.row_model.specs.declared.table.Table.TheVariants.{Edition}
-use Rattle.tables.specs.Table.{shape_of}
+use Rattle.schema.specs.declared.table.Table.TheVariants.{Edition}
+use Rattle.sql_tables.specs.Table.{shape_of}
 use Rattle.solver.specs.SessionState.{SessionState}
-use Rattle.wire.specs.Served.{IsServed}
-use Rattle.wire.specs.declared.outcome.Served.{Served}
-use Rattle.wire.specs.declared.outcome.StreamFault.{StreamFault}
+use Rattle.http_stream.specs.Served.{IsServed}
+use Rattle.http_stream.specs.declared.outcome.Served.{Served}
+use Rattle.http_stream.specs.declared.outcome.StreamFault.{StreamFault}
 use Rattle.cli.specs.Anew.{ServedAnew, BrokenAnew}
 
 -- where no table is listed the edition's is not

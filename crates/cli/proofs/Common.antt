@@ -7,12 +7,12 @@ pub use Rattle.cli.specs.Outputs.{Both, HasPrinted, Output, both_failures}
 pub use Rattle.cli.specs.declared.status.Status.{Status}
 pub use Rattle.cli.specs.declared.status.Status.TheVariants.{Failure, Success, Usage}
 pub use Rattle.cli.specs.declared.tasks.Task.{Task}
-pub use Rattle.commands.specs.Reading.{IsAnswer}
-pub use Rattle.commands.specs.declared.line.LineFault.{LineFault}
+pub use Rattle.args.specs.Reading.{IsAnswer}
+pub use Rattle.args.specs.declared.line.LineFault.{LineFault}
 pub use Rattle.desk.specs.DeskState.{DeskState}
-pub use Rattle.rolls.specs.State.{State, empty}
-pub use Rattle.rolls.specs.declared.refusal.Refusal.{Refusal}
-pub use Rattle.rolls.specs.declared.request.Request.{Request}
+pub use Rattle.office_model.specs.State.{State, empty}
+pub use Rattle.office_model.specs.declared.refusal.Refusal.{Refusal}
+pub use Rattle.office_model.specs.declared.request.Request.{Request}
 pub use Rattle.round_files.specs.declared.rounds.Trouble.{Trouble}
 pub use Rattle.sqlite.specs.Effect.{Database}
 pub use Rattle.sqlite.specs.Files.{IsOpened, file_state, over_files}
@@ -24,5 +24,5 @@ pub use Rattle.store.specs.Tables.{HasNone, Opens}
 pub use Rattle.web.proofs.OneMessage.{gets_at, office_seen}
 pub use Rattle.web.specs.Connections.{AllServed, Connect, SomeServed, Visit, lines_after}
 pub use Rattle.web.specs.Serving.{AnswersFrom, AnswersMessage, AnswersOffice, AtDesk, at_desk, end_text, just_opened}
-pub use Rattle.wire.specs.Run.{MessageText}
-pub use Rattle.world.specs.WorldState.{Found, IsPeer, IsReadOf, Peer, PortState, Within, WorldState, some_port}
+pub use Rattle.http_stream.specs.Run.{MessageText}
+pub use Rattle.host.specs.WorldState.{Found, IsPeer, IsReadOf, Peer, PortState, Within, WorldState, some_port}

@@ -1,9 +1,9 @@
 -- What is printed of an import is an outcome of its line.
 use Rattle.std.proofs.Common.{◌≡◌, inl, inr, ℕ, List, Result, Ok, Err, IfOk, IfErr, MatchResult, Vec, ap, ◌∙◌, subst}
 use Rattle.cli.proofs.Common.{Global, Refusal, Request, Found, IsReadOf, IsImportLine, ImportsFile, MayDoAt, Outcome, refused, IsImportOf, IsImportOfFile, IsUnreadOf}
-use Rattle.rolls.specs.declared.import.ImportKind.{ImportKind}
+use Rattle.office_model.specs.declared.import.ImportKind.{ImportKind}
 use Rattle.cli.specs.declared.tasks.Task.TheVariants as task
-use Rattle.rolls.specs.declared.TheConstants.{MAX_IMPORT_BYTES}
+use Rattle.office_model.specs.declared.TheConstants.{MAX_IMPORT_BYTES}
 use Rattle.cli.proofs.Writers.{of_any_file}
 
 -- the request of what was read of a file

@@ -3,12 +3,12 @@ use Rattle.std.proofs.Common.{◌≡◌, ◌⊎◌, inl, inr, ℕ, [], ◌∷◌
 use Rattle.sqlite.specs.Held.{Held, state}
 use Rattle.sqlite.specs.State.{HasCleanDisk}
 use Rattle.sqlite_trees.specs.declared.store.Store.{Ghosts}
-use Rattle.rolls.specs.declared.request.Request.{Request}
-use Rattle.rolls.specs.State.{State}
+use Rattle.office_model.specs.declared.request.Request.{Request}
+use Rattle.office_model.specs.State.{State}
 use Rattle.desk.specs.DeskState.{DeskState}
 use Rattle.desk.specs.Keeping.{CarriesOut}
 use Rattle.desk.specs.Laws.{AnswersStay, AskReaches, IsAtRest, IsOpenedAfter, LeavesOneOf}
-use Rattle.world.specs.WorldState.{PortState}
+use Rattle.host.specs.WorldState.{PortState}
 use Rattle.web.proofs.Streams.{connections_stay}
 use Rattle.cli.specs.Databases.{IsDone, TakesTo}
 use Rattle.cli.specs.Lasting.{TaskStays}

@@ -7,9 +7,9 @@ use Rattle.sqlite.specs.declared.error.Error.TheVariants.{SqliteFailure}
 use Rattle.sqlite.specs.declared.error.ErrorCode.TheVariants.{OutOfMemory}
 use Rattle.round_files.specs.Rounds.{IsSolved, IsChecked, IsPublished}
 use Rattle.round_files.specs.Public.{IsCheckedOwn}
-use Rattle.rolls.specs.declared.refusal.Refusal.TheVariants as no
-use Rattle.commands.specs.declared.line.Line.{Line}
-use Rattle.commands.specs.declared.line.Line.TheVariants as line
+use Rattle.office_model.specs.declared.refusal.Refusal.TheVariants as no
+use Rattle.args.specs.declared.line.Line.{Line}
+use Rattle.args.specs.declared.line.Line.TheVariants as line
 use Rattle.cli.specs.declared.tasks.Task.TheVariants as task
 use Rattle.cli.proofs.Imports.{imports_file}
 use Rattle.cli.proofs.Opened.{may_do}

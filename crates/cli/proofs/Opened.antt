@@ -7,8 +7,8 @@ use Rattle.sqlite_wal.specs.Recovery.{Image}
 use Rattle.sqlite_disk.specs.declared.Disk as disk
 use Rattle.sqlite_store.specs.declared.store.FileStore.{FileStore}
 use Rattle.sqlite_trees.specs.declared.store.Store.{Ghosts}
-use Rattle.rolls.specs.declared.refusal.Refusal.TheVariants as no
-use Rattle.tables.specs.Causes.{IsStopped}
+use Rattle.office_model.specs.declared.refusal.Refusal.TheVariants as no
+use Rattle.sql_tables.specs.Causes.{IsStopped}
 use Rattle.store.specs.Causes.{IsHinderedOpening}
 use Rattle.store.specs.Reading.{IsDamaged}
 use Rattle.store.specs.Editions.{latest}

@@ -3,9 +3,9 @@ use Rattle.std.proofs.Common.{◌≡◌, ◌≢◌, ◌⊎◌, inl, inr, ℕ, �
 use Rattle.cli.proofs.Common.{⊤, Appends, Global, Refusal, Found, IsReadOf, Peer, AllServed, SomeServed, Visit, lines_after, MessageText, Trouble, IsUnreadOf, Both, HasPrinted, Output, both_failures, OfDatabase, OnFile, Outcome, Prints, behind, of_round, refused, refusal_line, named_line, new_database, listening, IsUnreadFile, IsServed, Status, Success, Failure}
 use Rattle.std.proofs.Math.Seq.{take-add}
 use Rattle.std.proofs.lemmas.List.{drop_at, length-append, take-append-le, take_at}
-use Rattle.wire.proofs.Known.{appends_compose, appends_none}
-use Rattle.rolls.specs.declared.refusal.Refusal.TheVariants as no
-use Rattle.rolls.specs.RefusalInfo.{number_of, name_of}
+use Rattle.http_stream.proofs.Known.{appends_compose, appends_none}
+use Rattle.office_model.specs.declared.refusal.Refusal.TheVariants as no
+use Rattle.office_model.specs.RefusalInfo.{number_of, name_of}
 use Rattle.intake.specs.declared.TheConstants.{MAX_BYTES}
 use Rattle.round_files.specs.declared.rounds.Trouble.TheVariants.{Refused}
 use Rattle.web.specs.Connections.{in_a_row}

@@ -1,9 +1,9 @@
 -- A stream that is served over a new database.
 use Rattle.std.specs.Prelude.{◌≡◌, ◌⊎◌, ℕ, List, Option}
-use Rattle.rolls.specs.State.{empty}
-use Rattle.wire.specs.declared.outcome.Served.{Served}
-use Rattle.wire.specs.declared.outcome.StreamFault.{StreamFault}
-use Rattle.wire.specs.Served.{ServedTo, BrokeOff}
+use Rattle.office_model.specs.State.{empty}
+use Rattle.http_stream.specs.declared.outcome.Served.{Served}
+use Rattle.http_stream.specs.declared.outcome.StreamFault.{StreamFault}
+use Rattle.http_stream.specs.Served.{ServedTo, BrokeOff}
 use Rattle.web.specs.Serving.{AnswersMessage, AtDesk, end_text, just_opened}
 use Rattle.cli.specs.declared.status.Status.{Status}
 use Rattle.cli.specs.declared.status.Status.TheVariants.{Success, Failure}

@@ -3,8 +3,8 @@ use Rattle.std.specs.Prelude.{◌≡◌, ◌≢◌, ℕ, ◌<◌, ◌≤◌, Lis
 use Rattle.std.specs.declared.io.ErrorKind.{ErrorKind}
 use Rattle.std.specs.declared.io.ErrorKind.TheVariants as kinds
 use Rattle.sqlite_disk.specs.declared.Disk as disk
-use Rattle.rolls.specs.declared.refusal.Refusal.TheVariants as no
-use Rattle.world.specs.WorldState.{WorldState}
+use Rattle.office_model.specs.declared.refusal.Refusal.TheVariants as no
+use Rattle.host.specs.WorldState.{WorldState}
 use Rattle.cli.specs.Outputs.{Both}
 use Rattle.cli.specs.Outcomes.{Outcome, Prints, prints_err, refused}
 use Rattle.cli.specs.Databases.{Came, WordsAt}

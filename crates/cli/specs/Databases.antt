@@ -18,18 +18,18 @@ use Rattle.sqlite.specs.Start.{FindsIn}
 use Rattle.sqlite_wal.specs.Recovery.{Image}
 use Rattle.sqlite_trees.specs.Tree.{Trees}
 use Rattle.sqlite.specs.Closing.{IsCopied}
-use Rattle.rolls.specs.declared.refusal.Refusal.{Refusal}
-use Rattle.rolls.specs.declared.refusal.Refusal.TheVariants as no
-use Rattle.rolls.specs.declared.request.Plain.TheVariants as plain
-use Rattle.rolls.specs.declared.request.Reply.{Reply}
-use Rattle.rolls.specs.declared.request.Request.{Request}
-use Rattle.rolls.specs.declared.request.Request.TheVariants as request
-use Rattle.rolls.specs.State.{State, empty}
-use Rattle.rolls.specs.Fit.{IsFit}
-use Rattle.rolls.specs.Run.{Step}
-use Rattle.outside.specs.Layers.{layers}
-use Rattle.tables.specs.Causes.{IsStopped}
-use Rattle.tables.specs.Steps.{IsKept}
+use Rattle.office_model.specs.declared.refusal.Refusal.{Refusal}
+use Rattle.office_model.specs.declared.refusal.Refusal.TheVariants as no
+use Rattle.office_model.specs.declared.request.Plain.TheVariants as plain
+use Rattle.office_model.specs.declared.request.Reply.{Reply}
+use Rattle.office_model.specs.declared.request.Request.{Request}
+use Rattle.office_model.specs.declared.request.Request.TheVariants as request
+use Rattle.office_model.specs.State.{State, empty}
+use Rattle.office_model.specs.Fit.{IsFit}
+use Rattle.office_model.specs.Run.{Step}
+use Rattle.desk.specs.layers.Layers.{layers}
+use Rattle.sql_tables.specs.Causes.{IsStopped}
+use Rattle.sql_tables.specs.Steps.{IsKept}
 use Rattle.store.specs.Causes.{IsHinderedOpening}
 use Rattle.store.specs.Reading.{IsDamaged}
 use Rattle.store.specs.declared.edition.Edition.{Edition}
@@ -38,13 +38,13 @@ use Rattle.desk.specs.Keeping.{Keeps}
 use Rattle.desk.specs.DeskState.{DeskState, IsOpened as IsDeskOpened}
 use Rattle.web.specs.Connections.{Connect, Visit}
 use Rattle.web.specs.Serving.{AnswersFrom, GetsAt}
-use Rattle.world.specs.WorldState.{PortState, WorldState}
+use Rattle.host.specs.WorldState.{PortState, WorldState}
 use Rattle.round_files.specs.Rounds.{IsSolved, IsChecked, IsPublished}
 use Rattle.round_files.specs.Public.{IsCheckedOwn}
-use Rattle.commands.specs.declared.line.Line.{Line}
-use Rattle.commands.specs.declared.line.Line.TheVariants as line
-use Rattle.commands.specs.declared.line.LineFault.{LineFault}
-use Rattle.commands.specs.Reading.{IsAnswer}
+use Rattle.args.specs.declared.line.Line.{Line}
+use Rattle.args.specs.declared.line.Line.TheVariants as line
+use Rattle.args.specs.declared.line.LineFault.{LineFault}
+use Rattle.args.specs.Reading.{IsAnswer}
 use Rattle.cli.specs.declared.tasks.Task.{Task}
 use Rattle.cli.specs.declared.tasks.Task.TheVariants as task
 use Rattle.std.specs.Io.KnownBytes.{Appends}

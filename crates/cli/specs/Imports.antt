@@ -2,13 +2,13 @@
 use Rattle.std.specs.Prelude.{◌≡◌, ◌≢◌, ◌⊎◌, ℕ, ◌<◌, ◌≤◌, List, length, Result, Ok, Err}
 use Rattle.std.specs.declared.io.ErrorKind.{ErrorKind}
 use Rattle.std.specs.declared.io.ErrorKind.TheVariants as kinds
-use Rattle.rolls.specs.declared.import.ImportKind.{ImportKind}
-use Rattle.rolls.specs.declared.refusal.Refusal.{Refusal}
-use Rattle.rolls.specs.declared.refusal.Refusal.TheVariants as no
-use Rattle.rolls.specs.declared.request.Request.{Request}
-use Rattle.rolls.specs.declared.request.Request.TheVariants as request
-use Rattle.rolls.specs.declared.TheConstants.{MAX_IMPORT_BYTES}
-use Rattle.world.specs.WorldState.{Found, IsReadOf}
+use Rattle.office_model.specs.declared.import.ImportKind.{ImportKind}
+use Rattle.office_model.specs.declared.refusal.Refusal.{Refusal}
+use Rattle.office_model.specs.declared.refusal.Refusal.TheVariants as no
+use Rattle.office_model.specs.declared.request.Request.{Request}
+use Rattle.office_model.specs.declared.request.Request.TheVariants as request
+use Rattle.office_model.specs.declared.TheConstants.{MAX_IMPORT_BYTES}
+use Rattle.host.specs.WorldState.{Found, IsReadOf}
 
 -- the request of an import of these bytes was made, or there are too many, or memory ran out for it
 abbrev pub IsImportOf : List ℕ → ImportKind → List ℕ → Result Request Refusal → Type 0

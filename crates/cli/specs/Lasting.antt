@@ -2,11 +2,11 @@
 use Rattle.std.specs.Prelude.{◌≡◌, ◌⊎◌, ℕ}
 use Rattle.sqlite.specs.Held.{Held}
 use Rattle.sqlite_trees.specs.declared.store.Store.{Ghosts}
-use Rattle.rolls.specs.declared.request.Request.{Request}
-use Rattle.rolls.specs.State.{State}
+use Rattle.office_model.specs.declared.request.Request.{Request}
+use Rattle.office_model.specs.State.{State}
 use Rattle.desk.specs.Keeping.{CarriesOut}
 use Rattle.desk.specs.Laws.{IsOpenedAfter}
-use Rattle.world.specs.WorldState.{PortState}
+use Rattle.host.specs.WorldState.{PortState}
 use Rattle.cli.specs.Databases.{IsDone, TakesTo}
 use Rattle.cli.specs.declared.tasks.Task.{Task}
 

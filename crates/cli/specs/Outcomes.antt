@@ -2,35 +2,35 @@
 use Rattle.std.specs.Prelude.{◌≡◌, ◌⊎◌, ℕ, ◌+◌, ◌<◌, ◌≤◌, List, [], ◌∷◌, ◌++◌, length, flat_map, codes, decimal, string_bytes, ⊤, Option, Result, Ok, Err, String}
 use Rattle.std.specs.declared.alloc.Global.{Global}
 use Rattle.std.specs.Io.KnownBytes.{Appends}
-use Rattle.rolls.specs.declared.import.ImportKind.{ImportKind}
-use Rattle.rolls.specs.declared.refusal.Refusal.{Refusal}
-use Rattle.rolls.specs.declared.refusal.Refusal.TheVariants as no
-use Rattle.rolls.specs.declared.request.Plain.TheVariants as plain
-use Rattle.rolls.specs.declared.request.Reply.{Reply}
-use Rattle.rolls.specs.declared.request.Reply.TheVariants as reply
-use Rattle.rolls.specs.declared.request.Request.{Request}
-use Rattle.rolls.specs.declared.request.Request.TheVariants as request
-use Rattle.rolls.specs.declared.TheConstants.{MAX_IMPORT_BYTES}
+use Rattle.office_model.specs.declared.import.ImportKind.{ImportKind}
+use Rattle.office_model.specs.declared.refusal.Refusal.{Refusal}
+use Rattle.office_model.specs.declared.refusal.Refusal.TheVariants as no
+use Rattle.office_model.specs.declared.request.Plain.TheVariants as plain
+use Rattle.office_model.specs.declared.request.Reply.{Reply}
+use Rattle.office_model.specs.declared.request.Reply.TheVariants as reply
+use Rattle.office_model.specs.declared.request.Request.{Request}
+use Rattle.office_model.specs.declared.request.Request.TheVariants as request
+use Rattle.office_model.specs.declared.TheConstants.{MAX_IMPORT_BYTES}
 use Rattle.intake.specs.declared.TheConstants.{MAX_BYTES}
-use Rattle.world.specs.WorldState.{Found, IsReadOf, Peer, PortState, some_port}
-use Rattle.rolls.specs.State.{State}
-use Rattle.rolls.specs.Fit.{IsFit}
-use Rattle.rolls.specs.Run.{Step}
-use Rattle.rolls.specs.RefusalInfo.{number_of, name_of}
-use Rattle.outside.specs.Layers.{layers}
+use Rattle.host.specs.WorldState.{Found, IsReadOf, Peer, PortState, some_port}
+use Rattle.office_model.specs.State.{State}
+use Rattle.office_model.specs.Fit.{IsFit}
+use Rattle.office_model.specs.Run.{Step}
+use Rattle.office_model.specs.RefusalInfo.{number_of, name_of}
+use Rattle.desk.specs.layers.Layers.{layers}
 use Rattle.web.specs.Connections.{AreAwaited, Connect, Visit, in_a_row, lines_after}
 use Rattle.web.specs.declared.TheConstants.{MAX_UNACCEPTED}
 use Rattle.web.specs.Serving.{AnswersOffice}
-use Rattle.wire.specs.Run.{MessageText}
+use Rattle.http_stream.specs.Run.{MessageText}
 use Rattle.round_files.specs.Rounds.{IsSolved, IsChecked, IsPublished}
 use Rattle.round_files.specs.Public.{IsCheckedOwn}
 use Rattle.round_files.specs.declared.rounds.Trouble.{Trouble}
 use Rattle.round_files.specs.declared.rounds.Trouble.TheVariants.{Refused, BadLine, Failed}
-use Rattle.commands.specs.declared.line.Line.{Line}
-use Rattle.commands.specs.declared.line.Line.TheVariants as line
-use Rattle.commands.specs.declared.line.LineFault.{LineFault}
-use Rattle.commands.specs.declared.line.LineFault.TheVariants.{Memory, Help, Version, Fault}
-use Rattle.commands.specs.Reading.{IsAnswer}
+use Rattle.args.specs.declared.line.Line.{Line}
+use Rattle.args.specs.declared.line.Line.TheVariants as line
+use Rattle.args.specs.declared.line.LineFault.{LineFault}
+use Rattle.args.specs.declared.line.LineFault.TheVariants.{Memory, Help, Version, Fault}
+use Rattle.args.specs.Reading.{IsAnswer}
 use Rattle.cli.specs.declared.tasks.Task.{Task}
 use Rattle.cli.specs.declared.tasks.Task.TheVariants as task
 use Rattle.cli.specs.Imports.{IsUnreadOf}

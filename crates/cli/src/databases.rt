@@ -13,12 +13,12 @@ use crate::outputs::Outputs;
 use crate::status::Status;
 use crate::tasks::{Task, do_at};
 use desk::Desk;
+use host::Ports;
 use sqlite::{Alter, Connection, FileStore};
 use sqlite_disk::Disk;
 use std::alloc::Global;
 use store::has_none;
 use web::Sink;
-use world::Ports;
 
 /// Does a task at the office of a database, or prints the refusal of its opening, and gives the connection back.
 ///

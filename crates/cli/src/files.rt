@@ -1,12 +1,12 @@
 //! Files, read in one piece.
 
 ghost use Rattle.std.specs.Prelude.{◌^◌, ◌<◌, IfOk, IfErr};
-ghost use Rattle.world.specs.WorldState.{IsReadOf};
+ghost use Rattle.host.specs.WorldState.{IsReadOf};
 ghost use Rattle.cli.specs.Imports.{IsUnreadOf};
 
-use rolls::Refusal;
+use host::World;
+use office_model::Refusal;
 use std::io::ErrorKind;
-use world::World;
 
 /// Reads at most `most + 1` bytes of a file.
 pub(crate) fn read_file<W: World>(world: &W, path: &str, most: usize) -> Result<Vec<u8>, Refusal>

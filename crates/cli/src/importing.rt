@@ -11,10 +11,10 @@ use crate::opening::Closing;
 use crate::outputs::Outputs;
 use crate::status::Status;
 use crate::tasks::Task;
-use rolls::{Bytes, ImportKind, MAX_IMPORT_BYTES, Refusal, Request, Text};
+use host::World;
+use office_model::{Bytes, ImportKind, MAX_IMPORT_BYTES, Refusal, Request, Text};
 use std::alloc::{AllocError, Global};
 use web::Sink;
-use world::World;
 
 /// Returns the request of an import of a file's bytes.
 fn import_of(

@@ -7,9 +7,9 @@ ghost use Rattle.cli.specs.Lasting.{TaskStays};
 
 use crate::outputs::Outputs;
 use crate::status::Status;
+use host::World;
 use sqlite::Alter;
 use web::Sink;
-use world::World;
 
 /// What a command prints is an outcome of its words, in whatever world it was done.
 pub fn printed_law<W: World, O: Sink, E: Sink>(world: &W, outputs: &Outputs<O, E>)

@@ -1,6 +1,6 @@
 //! The lines of the program: what each does, what it prints where, and its status.
 //!
-//! The words of a line become a `Line` in `commands`. Here a file becomes its bytes, a database the desk that keeps its
+//! The words of a line become a `Line` in `args`. Here a file becomes its bytes, a database the desk that keeps its
 //! tables, and a result, an answer or a fault becomes a text on standard output or standard error with a status.
 //!
 //! Promised: what is printed, where and with which status is an outcome of the line that `clap` reads from the words: a

@@ -8,9 +8,9 @@ use crate::opening::{Closing, open_file};
 use crate::outputs::Outputs;
 use crate::status::Status;
 use crate::tasks::Task;
+use host::World;
 use std::alloc::Global;
 use web::Sink;
-use world::World;
 
 /// Does a task at the office of the database file with this name, or prints the refusal of the opening.
 /// Prints first that the database is new, where it is. Closes the file then, and gives back what came of it.

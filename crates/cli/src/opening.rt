@@ -9,13 +9,13 @@ ghost use Rattle.sqlite.specs.Held.{IsNew};
 ghost use Rattle.sqlite.specs.Start.{FindsIn};
 ghost use Rattle.sqlite.specs.State.{HasCleanDisk};
 ghost use Rattle.sqlite.specs.Closing.{IsCopied};
-ghost use Rattle.world.specs.WorldState.{Within};
+ghost use Rattle.host.specs.WorldState.{Within};
 ghost use Rattle.cli.specs.Databases.{IsRefusalOf};
 
-use rolls::Refusal;
+use host::World;
+use office_model::Refusal;
 use sqlite::{Connection, Error, ErrorCode, FileStore, Files};
 use sqlite_disk::Disk;
-use world::World;
 
 /// What comes of closing a database file: its files, or why it is not closed, and what is left of it.
 pub type Closing<D> = Result<Files<D>, (Error, FileStore<D>)>;

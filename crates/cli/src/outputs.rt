@@ -6,7 +6,7 @@ ghost use Rattle.cli.specs.Outcomes.{Prints, prints_err, prints, refused, new_da
 
 use crate::printing::{print, print_reply, refuse, write_new};
 use crate::status::Status;
-use rolls::{Refusal, Reply};
+use office_model::{Refusal, Reply};
 use std::marker::Model;
 use web::{Sink, StreamFault};
 

@@ -8,7 +8,7 @@ ghost use Rattle.cli.specs.Outcomes.{Printed, Prints, new_database, refusal_line
 use crate::outputs::Outputs;
 use crate::status::Status;
 use crate::texts::{bad_line, closed_line, labelled, refusal_line};
-use rolls::{Refusal, Reply};
+use office_model::{Refusal, Reply};
 use round_files::Trouble;
 use web::{Sink, StreamFault, write_all};
 

@@ -14,13 +14,13 @@ use crate::run::run_command;
 use crate::status::Status;
 use crate::texts::NOT_UTF8;
 use desk::Desk;
-use rolls::Refusal;
+use host::{Host, World};
+use office_model::Refusal;
 use sqlite::Connection;
 use std::alloc::Global;
 use std::io::{self, ErrorKind};
 use std::process::ExitCode;
 use web::{Sink, Source, serve_stream};
-use world::{Host, World};
 
 /// Serves a stream over a new database in memory, from the empty office on, and returns whether it was served to its end.
 ///

@@ -10,12 +10,12 @@ use crate::files::read_file;
 use crate::outputs::Outputs;
 use crate::printing::print_round;
 use crate::status::Status;
+use host::World;
 use intake::MAX_BYTES;
-use rolls::Refusal;
+use office_model::Refusal;
 use round_files::{Trouble, checked, checked_own, published, solved};
 use std::alloc::Global;
 use web::Sink;
-use world::World;
 
 /// What a line does with the round of a file.
 #[derive(Clone, Copy, Drop)]

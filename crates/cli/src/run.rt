@@ -11,11 +11,11 @@ use crate::outputs::Outputs;
 use crate::rounds::{RoundTask, do_file};
 use crate::status::Status;
 use crate::tasks::{Serving, Task};
-use commands::{Line, LineFault, command};
-use rolls::{Plain, Refusal, Request};
+use args::{Line, LineFault, command};
+use host::World;
+use office_model::{Plain, Refusal, Request};
 use std::alloc::Global;
 use web::Sink;
-use world::World;
 
 /// Does a line, and prints what comes of it. A file is read first, then a database is opened, then a port is bound, and then the
 /// request is judged.

@@ -12,12 +12,12 @@ use crate::outputs::Outputs;
 use crate::status::Status;
 use crate::texts::labelled;
 use desk::Desk;
-use rolls::Request;
+use host::{Door, Ports};
+use office_model::Request;
 use sqlite::Alter;
 use std::alloc::Global;
 use std::io;
 use web::{Sink, serve_on, write_all};
-use world::{Door, Ports};
 
 /// What a line does at the office of a database.
 #[derive(Drop)]

@@ -1,13 +1,13 @@
 //! The texts that lines print. None of them allocates, so that what was done is printed.
 
 ghost use Rattle.std.specs.Prelude.{◌≡◌, ◌+◌, ◌*◌, ◌≤◌, [], ◌∷◌, ◌++◌, length, decimal};
-ghost use Rattle.wire.specs.declared.TheConstants.{MAX_SHORT_TEXT};
+ghost use Rattle.http_stream.specs.declared.TheConstants.{MAX_SHORT_TEXT};
 ghost use Rattle.arrayvec.specs.ArrayVec.{array_vec_len};
-ghost use Rattle.rolls.specs.declared.refusal.Refusal.TheVariants as no;
+ghost use Rattle.office_model.specs.declared.refusal.Refusal.TheVariants as no;
 ghost use Rattle.cli.specs.Outcomes.{named_line, refusal_line, bad_line, counts_text, closed_line};
 
 use arrayvec::ArrayVec;
-use rolls::Refusal;
+use office_model::Refusal;
 use spa::RANKS;
 use web::{ShortText, push, push_labelled, push_number};
 

@@ -2,17 +2,17 @@
 use Rattle.std.proofs.Common.{◌≡◌, ◌⊎◌, ◌+◌, ◌^◌, arith, inl, inr, IsTrue, false, length, List, None, Result, subst}
 use Rattle.std.proofs.lemmas.Bool.{cases_Bool}
 use Rattle.sqlite.specs.State.{State as Seen, HasCleanDisk, IsLive}
-use Rattle.row_model.specs.declared.row.Change.{Change}
-use Rattle.row_model.specs.Changes.{AreFresh}
-use Rattle.rolls.specs.declared.refusal.Refusal.{Refusal}
-use Rattle.rolls.specs.declared.refusal.Refusal.TheVariants.{Storage}
-use Rattle.rolls.specs.declared.request.Reply.{Reply}
-use Rattle.rolls.specs.Fit.{IsFit}
-use Rattle.rolls.specs.Rows.{rows_in}
-use Rattle.rolls.specs.State.{State}
-use Rattle.tables.specs.Causes.{IsCaused}
-use Rattle.tables.specs.Ours.{IsOurs}
-use Rattle.tables.proofs.Ours.{unacted}
+use Rattle.schema.specs.declared.row.Change.{Change}
+use Rattle.schema.specs.Changes.{AreFresh}
+use Rattle.office_model.specs.declared.refusal.Refusal.{Refusal}
+use Rattle.office_model.specs.declared.refusal.Refusal.TheVariants.{Storage}
+use Rattle.office_model.specs.declared.request.Reply.{Reply}
+use Rattle.office_model.specs.Fit.{IsFit}
+use Rattle.office_model.specs.Rows.{rows_in}
+use Rattle.office_model.specs.State.{State}
+use Rattle.sql_tables.specs.Causes.{IsCaused}
+use Rattle.sql_tables.specs.Ours.{IsOurs}
+use Rattle.sql_tables.proofs.Ours.{unacted}
 use Rattle.store.specs.Available.{AreFew, AreReady, LeavesRoom, StaysOurs}
 use Rattle.store.proofs.Available.{room_for}
 use Rattle.store.specs.Causes.{IsHinderedAmong}

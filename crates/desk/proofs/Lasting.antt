@@ -5,11 +5,11 @@ use Rattle.sqlite.specs.Held.{state}
 use Rattle.sqlite.specs.State.{HasCleanDisk, IsLive}
 use Rattle.sqlite_trees.specs.declared.store.Store.{Ghosts}
 use Rattle.store.proofs.Available.{room_for}
-use Rattle.rolls.specs.Rows.{rows_in}
-use Rattle.rolls.specs.State.{State}
-use Rattle.tables.specs.Ours.{HasRoom, IsOurs}
-use Rattle.tables.specs.Table.{table_at}
-use Rattle.tables.proofs.Founding.{founding}
+use Rattle.office_model.specs.Rows.{rows_in}
+use Rattle.office_model.specs.State.{State}
+use Rattle.sql_tables.specs.Ours.{HasRoom, IsOurs}
+use Rattle.sql_tables.specs.Table.{table_at}
+use Rattle.sql_tables.proofs.Founding.{founding}
 use Rattle.store.specs.Common.{AnyTable, Database, Has, Schema}
 use Rattle.store.specs.Laws.{FindsOurs, OpensOurs}
 use Rattle.store.specs.Tables.{HasNone, StandsFor}

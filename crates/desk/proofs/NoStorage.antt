@@ -3,14 +3,14 @@ use Rattle.std.proofs.Common.{◌≡◌, ℕ, suc, List, [], ◌∷◌, ◌++◌
 use Rattle.desk.proofs.Common.{if◌then◌else◌, Refusal, Plain, PutList, Request, State, has_import, first, choice_tests, open_tests, round_tests, import_tests, plain_refusal, refusal_of, after_plain, refusal, import_as_read, layers}
 use Rattle.std.specs.List.{list_all}
 use Rattle.std.proofs.lemmas.Bool.{and_parts}
-use Rattle.rolls.specs.declared.import.ImportKind.{ImportKind}
-use Rattle.rolls.specs.declared.refusal.Refusal.TheVariants as no
-use Rattle.rolls.specs.declared.request.Request.TheVariants as request
-use Rattle.rolls.specs.Meaning.{meaning}
-use Rattle.rolls.specs.Importing.{or_else, at_record, rows_refusal, text_refusal}
-use Rattle.imports.specs.declared.fault.ImportFault.{ImportFault}
-use Rattle.imports.specs.declared.fault.ImportFault.TheVariants.{Memory, Header, Fields}
-use Rattle.imports.specs.Requests.{requests_of}
+use Rattle.office_model.specs.declared.import.ImportKind.{ImportKind}
+use Rattle.office_model.specs.declared.refusal.Refusal.TheVariants as no
+use Rattle.office_model.specs.declared.request.Request.TheVariants as request
+use Rattle.office_model.specs.Meaning.{meaning}
+use Rattle.office_model.specs.Importing.{or_else, at_record, rows_refusal, text_refusal}
+use Rattle.import_csv.specs.declared.fault.ImportFault.{ImportFault}
+use Rattle.import_csv.specs.declared.fault.ImportFault.TheVariants.{Memory, Header, Fields}
+use Rattle.import_csv.specs.Requests.{requests_of}
 
 abbrev is_storage : Refusal → Bool
 is_storage no.Storage = true

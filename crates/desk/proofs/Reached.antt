@@ -5,13 +5,13 @@ use Rattle.std.specs.Prelude.{false, true, map, Result, Ok, Err, IsOk}
 use Rattle.desk.proofs.Common.{HasCleanDisk, IsFit, Makes, Step, layers, Refusal, Reply, Request, State, Trees, changes_nothing, in_latest, latest, number_of, rolls_of, rows_in, state}
 use Rattle.sqlite.specs.Effect.{Database, IsDatabase}
 use Rattle.sqlite_trees.specs.declared.store.Store.{Ghosts}
-use Rattle.row_model.specs.declared.table.Table.TheVariants.{Edition}
-use Rattle.rolls.specs.Importing.{after_rows, rows_in as rows_in_text, with_import}
-use Rattle.rolls.specs.State.{has_import}
-use Rattle.rolls.specs.declared.request.Plain.TheVariants.{GetSupervisor, GetProject, GetStudent, GetRound}
-use Rattle.rolls.specs.declared.request.Request.TheVariants as request
-use Rattle.tables.specs.Table.{table_at, values}
-use Rattle.tables.proofs.SameTrees.{listed_so, stands_so}
+use Rattle.schema.specs.declared.table.Table.TheVariants.{Edition}
+use Rattle.office_model.specs.Importing.{after_rows, rows_in as rows_in_text, with_import}
+use Rattle.office_model.specs.State.{has_import}
+use Rattle.office_model.specs.declared.request.Plain.TheVariants.{GetSupervisor, GetProject, GetStudent, GetRound}
+use Rattle.office_model.specs.declared.request.Request.TheVariants as request
+use Rattle.sql_tables.specs.Table.{table_at, values}
+use Rattle.sql_tables.proofs.SameTrees.{listed_so, stands_so}
 use Rattle.store.specs.Common.{AllRows}
 use Rattle.store.specs.Laws.{OpensAgain}
 use Rattle.store.specs.Reading.{IsDamaged}

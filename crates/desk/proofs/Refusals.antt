@@ -1,7 +1,7 @@
 -- What may be answered where a making is refused.
 use Rattle.std.proofs.Common.{◌≡◌, ◌⊎◌, inl, inr, Some, None, Result, Ok, Err, IfErr}
 use Rattle.desk.proofs.Common.{Refusal, Request, refusal_of, MayRefuse, refusal, State, layers}
-use Rattle.rolls.specs.declared.refusal.Refusal.TheVariants as no
+use Rattle.office_model.specs.declared.refusal.Refusal.TheVariants as no
 
 -- what may come of a making that is not refused before its text is read
 pub may_refuse : (o : State) (q : Request) → refusal_of o q ≡ None → {A : Type 0} (r : Result A Refusal) → IfErr r (λ e. (e ≡ no.Memory) ⊎ (refusal layers o q ≡ Some e)) → IfErr r (MayRefuse layers o q)

@@ -2,9 +2,9 @@
 use Rattle.std.proofs.Common.{◌≡◌, IsTrue, inl, inr, List, None, refl, sym, subst, arith}
 use Rattle.sqlite.specs.Effect.{Database}
 use Rattle.desk.proofs.Common.{Seen, HasCleanDisk, Survives, survives_weaker, Trees, HasSaved, IsKept, MayRecoverTo, Change, Done, State, rows_in, Transforms, Request, IsFit, Makes, refusal, layers, Refusal, StoreFault, latest, number_of, rolls_of, hold_same, CarriesOut, Keeps, StandsForOne}
-use Rattle.row_model.specs.Changes.{after_changes}
+use Rattle.schema.specs.Changes.{after_changes}
 use Rattle.store.specs.Tables.{StandsFor, Opens}
-use Rattle.rolls.specs.declared.refusal.Refusal.TheVariants as no
+use Rattle.office_model.specs.declared.refusal.Refusal.TheVariants as no
 use Rattle.store.specs.declared.fault.StoreFault.TheVariants as store
 use Rattle.store.specs.Saving.{Saves}
 

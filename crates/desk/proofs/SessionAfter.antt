@@ -1,7 +1,7 @@
 -- What a request that was carried out makes of the session.
 use Rattle.std.proofs.Common.{◌≡◌, ℕ, List, Bool, true, false, Option, Some, None, IfSome, refl, sym, subst}
 use Rattle.desk.proofs.Common.{if◌then◌else◌, State, last_round, has_list, IsFit, Plain, PutSupervisor, PutProject, PutStudent, OpenRound, PutList, DropList, ReopenRound, Reply, Request, is_read, changes_nothing, plain_refusal, refusal_of, after_plain, Makes, SessionState, layers, MayJoin, plain_effect, effect_of, MirrorsRound, MayMeet}
-use Rattle.rolls.specs.declared.request.Request.TheVariants as request
+use Rattle.office_model.specs.declared.request.Request.TheVariants as request
 use Rattle.desk.specs.declared.sessions.SessionEffect.TheVariants.{Keep, Extend, End}
 
 -- ---- a change

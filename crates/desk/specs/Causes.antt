@@ -1,11 +1,11 @@
 -- Why a request that changes the office fails, for another cause than running out of memory.
 use Rattle.std.specs.Prelude.{ℕ, List, Option}
 use Rattle.sqlite.specs.Effect.{Database}
-use Rattle.row_model.specs.declared.row.Change.{Change}
-use Rattle.rolls.specs.declared.request.Request.{Request}
-use Rattle.rolls.specs.State.{State}
-use Rattle.rolls.specs.Rows.{Transforms}
-use Rattle.outside.specs.Changes.{MayChange}
+use Rattle.schema.specs.declared.row.Change.{Change}
+use Rattle.office_model.specs.declared.request.Request.{Request}
+use Rattle.office_model.specs.State.{State}
+use Rattle.office_model.specs.Rows.{Transforms}
+use Rattle.desk.specs.layers.Changes.{MayChange}
 use Rattle.store.specs.Causes.{IsHinderedAmong}
 use Rattle.desk.specs.Keeping.{CarriesOut}
 

@@ -2,7 +2,7 @@
 use Rattle.std.specs.Prelude.{◌≡◌, Option, None}
 use Rattle.sqlite.specs.Held.{Held, state}
 use Rattle.sqlite_trees.specs.declared.store.Store.{Ghosts}
-use Rattle.rolls.specs.State.{State}
+use Rattle.office_model.specs.State.{State}
 use Rattle.solver.specs.SessionState.{SessionState}
 use Rattle.store.specs.Opening.{IsOpening}
 use Rattle.desk.specs.Keeping.{Keeps}

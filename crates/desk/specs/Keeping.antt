@@ -2,18 +2,18 @@
 use Rattle.std.specs.Prelude.{◌≡◌, ℕ, ◌||◌, ◌++◌, ◌∷◌, IsTrue, Bool, is_some, List, Result, Ok, IsOk, Option, None, IfSome}
 use Rattle.sqlite.specs.Effect.{Database}
 use Rattle.sqlite.specs.State.{State as Seen, HasCleanDisk}
-use Rattle.rolls.specs.declared.request.Reply.{Reply}
-use Rattle.rolls.specs.declared.request.Reply.TheVariants as reply
-use Rattle.rolls.specs.State.{State, kept_rows}
-use Rattle.rolls.specs.declared.refusal.Refusal.{Refusal}
-use Rattle.rolls.specs.declared.request.Request.{Request}
-use Rattle.rolls.specs.declared.request.Request.TheVariants as request
-use Rattle.rolls.specs.declared.request.Plain.TheVariants as plain
-use Rattle.rolls.specs.Reads.{changes_nothing}
-use Rattle.rolls.specs.Refusing.{refusal_of}
-use Rattle.rolls.specs.Fit.{IsFit}
-use Rattle.rolls.specs.Run.{Run, Step, refusal}
-use Rattle.outside.specs.Layers.{layers}
+use Rattle.office_model.specs.declared.request.Reply.{Reply}
+use Rattle.office_model.specs.declared.request.Reply.TheVariants as reply
+use Rattle.office_model.specs.State.{State, kept_rows}
+use Rattle.office_model.specs.declared.refusal.Refusal.{Refusal}
+use Rattle.office_model.specs.declared.request.Request.{Request}
+use Rattle.office_model.specs.declared.request.Request.TheVariants as request
+use Rattle.office_model.specs.declared.request.Plain.TheVariants as plain
+use Rattle.office_model.specs.Reads.{changes_nothing}
+use Rattle.office_model.specs.Refusing.{refusal_of}
+use Rattle.office_model.specs.Fit.{IsFit}
+use Rattle.office_model.specs.Run.{Run, Step, refusal}
+use Rattle.desk.specs.layers.Layers.{layers}
 use Rattle.store.specs.Tables.{StandsFor}
 
 -- The tables stand for the office. Where a fault of the disk has shut the connection it shows no tables, and

@@ -4,12 +4,12 @@ use Rattle.sqlite.specs.Effect.{Database, IsDatabase}
 use Rattle.sqlite.specs.Held.{Held, state}
 use Rattle.sqlite.specs.State.{HasCleanDisk, IsLive}
 use Rattle.sqlite_trees.specs.declared.store.Store.{Ghosts}
-use Rattle.rolls.specs.declared.refusal.Refusal.{Refusal}
-use Rattle.rolls.specs.declared.refusal.Refusal.TheVariants.{Storage}
-use Rattle.rolls.specs.declared.request.Reply.{Reply}
-use Rattle.rolls.specs.declared.request.Request.{Request}
-use Rattle.tables.specs.Causes.{IsCaused}
-use Rattle.tables.specs.Ours.{HasRoom, IsOurs}
+use Rattle.office_model.specs.declared.refusal.Refusal.{Refusal}
+use Rattle.office_model.specs.declared.refusal.Refusal.TheVariants.{Storage}
+use Rattle.office_model.specs.declared.request.Reply.{Reply}
+use Rattle.office_model.specs.declared.request.Request.{Request}
+use Rattle.sql_tables.specs.Causes.{IsCaused}
+use Rattle.sql_tables.specs.Ours.{HasRoom, IsOurs}
 use Rattle.store.specs.Causes.{IsHinderedOpening}
 use Rattle.store.specs.Laws.{nothing_made}
 use Rattle.desk.specs.DeskState.{DeskState, IsOpened}

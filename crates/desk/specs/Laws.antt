@@ -4,15 +4,15 @@ use Rattle.sqlite.specs.Effect.{Database, IsDatabase}
 use Rattle.sqlite.specs.State.{HasCleanDisk, IsLive, Survives}
 use Rattle.sqlite.specs.Held.{state}
 use Rattle.sqlite_trees.specs.declared.store.Store.{Ghosts}
-use Rattle.rolls.specs.declared.refusal.Refusal.{Refusal}
-use Rattle.rolls.specs.declared.request.Reply.{Reply}
-use Rattle.rolls.specs.declared.request.Request.{Request}
-use Rattle.rolls.specs.State.{State}
-use Rattle.rolls.specs.Fit.{IsFit}
-use Rattle.rolls.specs.Reads.{changes_nothing}
-use Rattle.rolls.specs.Run.{Step}
-use Rattle.outside.specs.Layers.{layers}
-use Rattle.tables.specs.Steps.{MayRecoverTo}
+use Rattle.office_model.specs.declared.refusal.Refusal.{Refusal}
+use Rattle.office_model.specs.declared.request.Reply.{Reply}
+use Rattle.office_model.specs.declared.request.Request.{Request}
+use Rattle.office_model.specs.State.{State}
+use Rattle.office_model.specs.Fit.{IsFit}
+use Rattle.office_model.specs.Reads.{changes_nothing}
+use Rattle.office_model.specs.Run.{Step}
+use Rattle.desk.specs.layers.Layers.{layers}
+use Rattle.sql_tables.specs.Steps.{MayRecoverTo}
 use Rattle.store.specs.Reading.{IsDamaged}
 use Rattle.store.specs.Tables.{LeavesAlone, Opens, StandsFor}
 use Rattle.desk.specs.DeskState.{DeskState}

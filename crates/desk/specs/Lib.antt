@@ -1,3 +1,4 @@
+pub mod layers
 pub mod PersistentOffice
 pub mod Keeping
 pub mod DeskState

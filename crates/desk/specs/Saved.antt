@@ -1,17 +1,17 @@
 -- How a request that was asked leaves the tables.
 use Rattle.std.specs.Prelude.{◌≡◌, ◌^◌, IsTrue, IsErr, OnOk, None, false, Result}
 use Rattle.sqlite.specs.State.{State as Seen, HasCleanDisk, Survives}
-use Rattle.rolls.specs.State.{State}
-use Rattle.rolls.specs.declared.refusal.Refusal.{Refusal}
-use Rattle.rolls.specs.declared.refusal.Refusal.TheVariants.{Storage}
-use Rattle.rolls.specs.declared.request.Reply.{Reply}
-use Rattle.rolls.specs.declared.request.Request.{Request}
-use Rattle.rolls.specs.Reads.{changes_nothing}
-use Rattle.tables.specs.Causes.{IsCaused}
-use Rattle.tables.specs.Steps.{MayRecoverTo}
+use Rattle.office_model.specs.State.{State}
+use Rattle.office_model.specs.declared.refusal.Refusal.{Refusal}
+use Rattle.office_model.specs.declared.refusal.Refusal.TheVariants.{Storage}
+use Rattle.office_model.specs.declared.request.Reply.{Reply}
+use Rattle.office_model.specs.declared.request.Request.{Request}
+use Rattle.office_model.specs.Reads.{changes_nothing}
+use Rattle.sql_tables.specs.Causes.{IsCaused}
+use Rattle.sql_tables.specs.Steps.{MayRecoverTo}
 use Rattle.store.specs.Available.{AreReady, LeavesRoom}
 use Rattle.store.specs.Saving.{AreActedOn}
-use Rattle.tables.specs.Ours.{IsOurs}
+use Rattle.sql_tables.specs.Ours.{IsOurs}
 use Rattle.store.specs.Tables.{LeavesAlone}
 use Rattle.desk.specs.Causes.{IsHinderedToAsk}
 use Rattle.desk.specs.Keeping.{CarriesOut, StandsForOne}

@@ -1,18 +1,18 @@
 -- What becomes of the session that a desk keeps.
 use Rattle.std.specs.Prelude.{◌≡◌, ℕ, List, [], ◌∷◌, IsTrue, Option, Some, None, is_some, IfSome, IsOk, Result, Ok, Err, if◌then◌else◌}
-use Rattle.rolls.specs.State.{State, last_round, has_list, has_import}
-use Rattle.rolls.specs.declared.refusal.Refusal.{Refusal}
-use Rattle.rolls.specs.Reads.{is_read}
-use Rattle.rolls.specs.Refusing.{refusal_of}
-use Rattle.rolls.specs.declared.request.Plain.{Plain}
-use Rattle.rolls.specs.declared.request.Plain.TheVariants.{PutStudent, PutList}
-use Rattle.rolls.specs.declared.request.Reply.{Reply}
-use Rattle.rolls.specs.declared.request.Request.{Request}
-use Rattle.rolls.specs.declared.request.Request.TheVariants as request
-use Rattle.rolls.specs.Run.{Step}
+use Rattle.office_model.specs.State.{State, last_round, has_list, has_import}
+use Rattle.office_model.specs.declared.refusal.Refusal.{Refusal}
+use Rattle.office_model.specs.Reads.{is_read}
+use Rattle.office_model.specs.Refusing.{refusal_of}
+use Rattle.office_model.specs.declared.request.Plain.{Plain}
+use Rattle.office_model.specs.declared.request.Plain.TheVariants.{PutStudent, PutList}
+use Rattle.office_model.specs.declared.request.Reply.{Reply}
+use Rattle.office_model.specs.declared.request.Request.{Request}
+use Rattle.office_model.specs.declared.request.Request.TheVariants as request
+use Rattle.office_model.specs.Run.{Step}
 use Rattle.solver.specs.SessionState.{SessionState}
-use Rattle.outside.specs.Layers.{layers}
-use Rattle.outside.specs.SessionRounds.{IsSessionOf, IsOneMore}
+use Rattle.desk.specs.layers.Layers.{layers}
+use Rattle.desk.specs.layers.SessionRounds.{IsSessionOf, IsOneMore}
 use Rattle.desk.specs.Keeping.{AnswersStored, AnswersRound}
 use Rattle.desk.specs.declared.sessions.SessionEffect.{SessionEffect}
 use Rattle.desk.specs.declared.sessions.SessionEffect.TheVariants.{Keep, Start, Extend, End}

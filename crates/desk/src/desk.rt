@@ -3,12 +3,12 @@
 ghost use Rattle.std.specs.Prelude.{ℕ, ◌≡◌, ◌≢◌, ◌⊎◌, Err, IfOk, IfErr, IsOk, IsErr, IfSome, IsTrue, is_some, OnErr, None, option_map, false, true};
 ghost use Rattle.sqlite.specs.State.{HasCleanDisk, IsLive, Survives};
 ghost use Rattle.sqlite.specs.Held.{state};
-ghost use Rattle.tables.specs.Steps.{MayRecoverTo};
-ghost use Rattle.rolls.specs.Fit.{IsFit};
-ghost use Rattle.rolls.specs.Reads.{changes_nothing};
-ghost use Rattle.rolls.specs.Refusing.{refusal_of};
-ghost use Rattle.rolls.specs.Run.{Step, Run, refusal};
-ghost use Rattle.outside.specs.Layers.{layers};
+ghost use Rattle.sql_tables.specs.Steps.{MayRecoverTo};
+ghost use Rattle.office_model.specs.Fit.{IsFit};
+ghost use Rattle.office_model.specs.Reads.{changes_nothing};
+ghost use Rattle.office_model.specs.Refusing.{refusal_of};
+ghost use Rattle.office_model.specs.Run.{Step, Run, refusal};
+ghost use Rattle.desk.specs.layers.Layers.{layers};
 ghost use Rattle.store.specs.Opening.{IsLeftUnopened};
 ghost use Rattle.store.specs.Reading.{AreListed};
 ghost use Rattle.store.specs.Tables.{HasNone};
@@ -17,10 +17,11 @@ ghost use Rattle.desk.specs.DeskState.{IsOpened};
 ghost use Rattle.desk.specs.Saved.{IsSaved};
 ghost use Rattle.desk.specs.Sessions.{AnswersAtOnce, GoesOn, RunsOn, MirrorsRound};
 
+use crate::layers;
 use crate::persistent::{PersistentOffice, refusal_of_fault};
 use crate::sessions::{effect_of, next_session};
 use office::Office;
-use rolls::{Plain, Refusal, Reply, Request};
+use office_model::{Plain, Refusal, Reply, Request};
 use solver::Session;
 use sqlite::{Alter, Connection};
 use std::alloc::{AllocError, Global};
@@ -202,8 +203,8 @@ impl<S: Alter> Desk<S> {
             Request::Plain(plain) => self.persistent.read(plain),
             Request::Close => unreachable!(),
             Request::Preview => self.preview(),
-            Request::RoundText => Ok(outside::round_text(self.alloc, office)?),
-            Request::Report { kind, round } => outside::report(self.alloc, office, kind, round),
+            Request::RoundText => Ok(layers::round_text(self.alloc, office)?),
+            Request::Report { kind, round } => layers::report(self.alloc, office, kind, round),
             Request::Import { id, .. } => match office.kept_rows(id.as_str()) {
                 Some(rows) => Ok(Reply::Rows(rows)),
                 None => unreachable!(),
@@ -223,10 +224,10 @@ impl<S: Alter> Desk<S> {
     {
         self.keeps();
         if let Some(session) = &self.session {
-            return Ok(outside::read_preview(session));
+            return Ok(layers::read_preview(session));
         }
-        let session = outside::start_session(self.alloc, &self.persistent.office)?;
-        let reply = outside::read_preview(&session);
+        let session = layers::start_session(self.alloc, &self.persistent.office)?;
+        let reply = layers::read_preview(&session);
         self.session = Some(session);
         Ok(reply)
     }

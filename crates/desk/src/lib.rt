@@ -15,6 +15,7 @@
 
 mod desk;
 mod laws;
+mod layers;
 mod persistent;
 mod sessions;
 

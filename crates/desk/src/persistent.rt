@@ -3,20 +3,21 @@
 ghost use Rattle.std.specs.Prelude.{ℕ, ◌≡◌, ◌≢◌, ◌⊎◌, Err, IfErr, IfOk, IfSome, IsOk, None, false, true};
 ghost use Rattle.sqlite.specs.Held.{state};
 ghost use Rattle.sqlite.specs.State.{IsLive};
-ghost use Rattle.rolls.specs.Fit.{IsFit};
-ghost use Rattle.rolls.specs.Reads.{is_read, changes_nothing};
-ghost use Rattle.rolls.specs.Refusing.{plain_refusal, refusal_of};
-ghost use Rattle.rolls.specs.Rows.{Transforms};
-ghost use Rattle.rolls.specs.Run.{Makes, MayRefuse, Step, refusal};
-ghost use Rattle.outside.specs.Changes.{MayChange};
-ghost use Rattle.outside.specs.Layers.{layers};
+ghost use Rattle.office_model.specs.Fit.{IsFit};
+ghost use Rattle.office_model.specs.Reads.{is_read, changes_nothing};
+ghost use Rattle.office_model.specs.Refusing.{plain_refusal, refusal_of};
+ghost use Rattle.office_model.specs.Rows.{Transforms};
+ghost use Rattle.office_model.specs.Run.{Makes, MayRefuse, Step, refusal};
+ghost use Rattle.desk.specs.layers.Changes.{MayChange};
+ghost use Rattle.desk.specs.layers.Layers.{layers};
 ghost use Rattle.desk.specs.Keeping.{Keeps};
 ghost use Rattle.store.specs.Saving.{AreActedOn};
 ghost use Rattle.desk.specs.Saved.{IsSaved};
 ghost use Rattle.desk.specs.Inside.Saved.{HasSettled};
 
+use crate::layers;
 use office::Office;
-use rolls::{Done, Plain, Refusal, Reply, Request};
+use office_model::{Done, Plain, Refusal, Reply, Request};
 use sqlite::Alter;
 use std::alloc::Global;
 use std::marker::Model;
@@ -70,8 +71,8 @@ fn make_change(alloc: Global, office: &mut Office, request: Request) -> Result<D
 {
     match request {
         Request::Plain(plain) => Ok(office.make(plain)?),
-        Request::Close => Ok(outside::close(alloc, office)?),
-        Request::Import { id, kind, bytes } => outside::import(alloc, office, id, kind, bytes),
+        Request::Close => Ok(layers::close(alloc, office)?),
+        Request::Import { id, kind, bytes } => layers::import(alloc, office, id, kind, bytes),
         Request::Preview | Request::RoundText | Request::Report { .. } => unreachable!(),
     }
 }

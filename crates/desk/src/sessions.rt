@@ -1,12 +1,13 @@
 //! What becomes of the session that a desk keeps.
 
 ghost use Rattle.std.specs.Prelude.{◌≡◌, IfOk, IfSome};
-ghost use Rattle.outside.specs.SessionRounds.{MayJoin};
+ghost use Rattle.desk.specs.layers.SessionRounds.{MayJoin};
 ghost use Rattle.desk.specs.Sessions.{list_effect, plain_effect, effect_of, Goes, IsJoined, MirrorsRound};
 ghost use Rattle.desk.specs.Inside.Sessions.{MayMeet};
 
+use crate::layers;
 use office::Office;
-use rolls::{Plain, Request, Text};
+use office_model::{Plain, Request, Text};
 use solver::Session;
 use std::alloc::{AllocError, Global};
 
@@ -78,7 +79,7 @@ fn joined(alloc: Global, office: &Office, kept: Option<Session>, student: &str) 
     let Some(mut session) = kept else {
         return None;
     };
-    match outside::join(alloc, office, &mut session, student) {
+    match layers::join(alloc, office, &mut session, student) {
         Ok(()) => Some(session),
         Err(_) => None,
     }

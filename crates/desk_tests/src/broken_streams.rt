@@ -1,16 +1,16 @@
 //! Streams at a desk whose bytes come in pieces, and whose readers and writers fail: what is written, and what the tables have then.
 
 use desk::Desk;
-use rows::judged::holds;
-use rows::pieces::Pieces;
 use sqlite::{Alter, Connection};
 use std::alloc::Global;
 use std::io::ErrorKind;
 use std::rt::HostRuntime;
 use std::test::Fail;
-use test_support::offices::find;
-use test_support::opened::desk_over;
-use test_support::played::{Outcome, served};
+use testing::judged::holds;
+use testing::offices::find;
+use testing::opened::desk_over;
+use testing::pieces::Pieces;
+use testing::played::{Outcome, served};
 use web::{End, Served, StreamFault};
 
 /// A stream: its reader and its writer, and what comes of it.

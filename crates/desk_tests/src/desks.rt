@@ -1,13 +1,13 @@
 //! A desk over a database: a list of requests is answered in order.
 
 use desk::Desk;
-use rolls::{Plain, Refusal, Reply, Request, Text};
-use rows::judged::holds;
+use office_model::{Plain, Refusal, Reply, Request, Text};
 use sqlite::{Alter, Connection};
 use std::alloc::Global;
 use std::rt::HostRuntime;
 use std::test::Fail;
-use test_support::opened::{desk_over, put_student};
+use testing::judged::holds;
+use testing::opened::{desk_over, put_student};
 
 /// How often the student is read.
 const READS: usize = 1_998;

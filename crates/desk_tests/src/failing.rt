@@ -5,7 +5,7 @@ use sqlite_disk::{Crash, Disk, Fuse, Memory};
 use std::alloc::Global;
 use std::rt::HostRuntime;
 use std::test::Fail;
-use test_support::judged::holds;
+use testing::judged::holds;
 
 #[rattlefmt::skip]
 static ROWS: [Row; 10] = [

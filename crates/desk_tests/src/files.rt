@@ -6,16 +6,16 @@ ghost use Rattle.std.specs.Prelude.{IfOk, IsTrue};
 ghost use Rattle.sqlite_disk.specs.Memory.{memory_is_usable};
 
 use desk::Desk;
-use rolls::Refusal;
+use office_model::Refusal;
 use sqlite::{Alter, Connection, Files, Options};
 use sqlite_disk::{Disk, Fuse, Memory};
 use std::alloc::Global;
 use std::test::Fail;
-use test_support::judged::holds;
-use test_support::kept::kept_by;
-use test_support::offices::play_over;
-use test_support::played::{answer_of, asked, play_lines};
-use test_support::school::{FIRST_EDITION, SECOND_EDITION};
+use testing::judged::holds;
+use testing::kept::kept_by;
+use testing::offices::play_over;
+use testing::played::{answer_of, asked, play_lines};
+use testing::school::{FIRST_EDITION, SECOND_EDITION};
 
 /// What files hold before a row.
 #[derive(Clone, Copy)]

@@ -2,16 +2,16 @@
 
 ghost use Rattle.std.specs.Prelude.{⊤};
 ghost use Rattle.sqlite.specs.Files.{image_of};
-ghost use Rattle.world.specs.WorldState.{some_port};
+ghost use Rattle.host.specs.WorldState.{some_port};
 
-use rows::pieces::Pieces;
+use host::{Door, Ports, World, read_up_to};
 use sqlite::{Connection, Error, ErrorCode, FileStore, Files, Options};
 use sqlite_disk::Disk;
 use std::alloc::{AllocError, Global};
 use std::cell::RefCell;
 use std::io::{self, ErrorKind, Write};
+use testing::pieces::Pieces;
 use web::Watched;
-use world::{Door, Ports, World, read_up_to};
 
 /// Returns these words, parted by blanks.
 pub(crate) fn parted(alloc: Global, words: &str) -> Result<Vec<String>, AllocError> {

@@ -1,7 +1,7 @@
 //! The tests of a desk that need a function of their own: streams in pieces, commands, sessions, and what fails one after another, each
 //! through public calls alone.
 //!
-//! What rows can show stands in `school`, and `docs/TESTS.md` says where a test of what goes.
+//! What rows can show stands in `scenarios`, and `docs/TESTS.md` says where a test of what goes.
 #![tactic(auto)]
 
 // Streams in pieces, and readers and writers that fail.

@@ -2,16 +2,16 @@
 
 use crate::in_memory::parted;
 use cli::{Outputs, run_command};
+use host::{Door, Machine, Ports};
 use sqlite::Unknown;
 use std::io::{Read, Write};
 use std::net::{Ipv4Addr, Shutdown, TcpListener, TcpStream};
 use std::rt::HostRuntime;
 use std::test::Fail;
 use std::{fs, io};
-use test_support::judged::holds;
-use test_support::offices::exchanged;
+use testing::judged::holds;
+use testing::offices::exchanged;
 use web::Watched;
-use world::{Door, Machine, Ports};
 
 /// A writer that calls the port of the line that writes to it, once it writes: as a client who asks, and as one who does not.
 #[derive(Drop)]

@@ -1,14 +1,14 @@
 //! An office and its tables without a desk: what is applied is saved, and loaded as it was.
 
 use office::Office;
-use rolls::{Done, Plain, Refusal, Text};
-use rows::judged::{holds, well};
+use office_model::{Done, Plain, Refusal, Text};
 use sqlite::{Alter, Connection};
 use std::alloc::Global;
 use std::rt::HostRuntime;
 use std::test::Fail;
 use store::Store;
-use test_support::opened::put_student;
+use testing::judged::{holds, well};
+use testing::opened::put_student;
 
 /// Returns the request that takes the student's list away.
 fn drop_list(alloc: Global) -> Result<Plain, Fail> {

@@ -11,9 +11,9 @@ use std::alloc::Global;
 use std::cell::RefCell;
 use std::rt::HostRuntime;
 use std::test::Fail;
-use test_support::cells::{body_of, first_cell};
-use test_support::offices::{exchanged, plain};
-use test_support::played::otherwise;
+use testing::cells::{body_of, first_cell};
+use testing::offices::{exchanged, plain};
+use testing::played::otherwise;
 use web::Watched;
 
 /// What worlds play by name.

@@ -5,16 +5,16 @@
 //! row runs undisturbed, and under `tools/memory/refuse_each_in_tests.py` once for each request for memory that it makes.
 
 use desk::Desk;
-use rolls::Refusal;
+use office_model::Refusal;
 use sqlite::{Alter, Connection};
 use std::alloc::{AllocError, Global};
 use std::rt::HostRuntime;
 use std::test::Fail;
-use test_support::judged::holds;
-use test_support::kept::{keeps, kept_by};
-use test_support::offices::play_rows;
-use test_support::opened::desk_over;
-use test_support::played::{Outcome, answer_of, asked, messages_of, play_lines, served, whole};
+use testing::judged::holds;
+use testing::kept::{keeps, kept_by};
+use testing::offices::play_rows;
+use testing::opened::desk_over;
+use testing::played::{Outcome, answer_of, asked, messages_of, play_lines, served, whole};
 use web::StreamFault;
 
 const ARM: usize = 0x3000_0000_0000;

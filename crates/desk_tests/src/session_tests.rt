@@ -1,15 +1,15 @@
 //! The session that a desk caches: where there is one, and that it returns what a new one would.
 
 use desk::Desk;
-use rows::cells::first_cell;
-use rows::judged::holds;
 use sqlite::{Alter, Connection};
 use std::alloc::{AllocError, Global};
 use std::rt::HostRuntime;
 use std::test::Fail;
-use test_support::offices::{play_over, play_rows};
-use test_support::opened::desk_over;
-use test_support::played::{asked, numbered, play_lines};
+use testing::cells::first_cell;
+use testing::judged::holds;
+use testing::offices::{play_over, play_rows};
+use testing::opened::desk_over;
+use testing::played::{asked, numbered, play_lines};
 
 /// A round is open, and nobody has a list.
 #[rattlefmt::skip]

@@ -1,4 +1,4 @@
-//! Texts that come from outside and go there: round texts, and by `imports` import texts.
+//! Texts that come from outside and go there: round texts and public texts.
 //!
 //! A round text is an aim and an instance by codes, and with them a matching and prices, in lines that people and other
 //! programs can read. Nothing here judges whether the matching is one of the instance or whether the prices prove it
@@ -22,7 +22,6 @@ mod round;
 mod section;
 mod write;
 
-pub use imports::{ImportFault, read_import};
 pub use laws::round_law;
 pub use public_parts::PublicParts;
 pub use public_write::write_public;

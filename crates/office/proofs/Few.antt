@@ -1,7 +1,7 @@
 -- What is counted of a fit office is small.
 use Rattle.std.proofs.lemmas.List.Sums.{count_by-le-length}
 use Rattle.office.proofs.Common.{MAX_STUDENTS, Placement, State, lists_of, IsFit, ℕ, ◌≤◌, arith, Bool, length, count_by}
-use Rattle.rolls.proofs.NoMoreThanFound.{few_placed, few_lists}
+use Rattle.office_model.proofs.NoMoreThanFound.{few_placed, few_lists}
 
 pub placements_few : (o : State) → IsFit o → length o.placements ≤ MAX_STUDENTS
 placements_few o fit = let few = few_placed o fit in omega (arith, few, fit.students.few)

@@ -1,13 +1,13 @@
 -- An import makes its rows one after another. While it is under way, what is left decides as the whole did from the office
 -- before; at the end nothing is left, so all rows were made.
 use Rattle.office.proofs.Common.{append_assoc, ◌&&◌, not, nat_le, Bool, true, false, is_some, Ok, if◌then◌else◌, option_map, unwrap_or, MAX_IMPORTS, Import, ImportTable, Add, Refusal, Plain, Done, Change, of_code, find, rises, State, import_key, import_of, has_import, kept_rows, Transforms, import_cells, first, plain_refusal, import_tests, after_plain, or_else, at_record, rows_refusal, after_rows, import_refusal, with_import, IsDone, Imports, allowed, put_or_added, changes_of, changes_of_rows, import_changes, ◌≡◌, ℕ, suc, [], ◌∷◌, ◌++◌, Option, Some, None, refl, sym, ap, subst, ◌∙◌, arith, ◌+◌, List, length, plain_reply}
-use Rattle.rolls.specs.declared.import.ImportKind.{ImportKind}
-use Rattle.change_laws.proofs.ImportChanges.{keep_none}
-use Rattle.change_laws.proofs.Changes.{transforms_follow}
-use Rattle.change_laws.proofs.OneRow.{transforms_import}
+use Rattle.office_model.specs.declared.import.ImportKind.{ImportKind}
+use Rattle.office.proofs.changes.ImportChanges.{keep_none}
+use Rattle.office.proofs.changes.Changes.{transforms_follow}
+use Rattle.office.proofs.changes.OneRow.{transforms_import}
 use Rattle.office.specs.Inside.Importing.{AreMade}
 use Rattle.std.proofs.lemmas.List.Sorted.{IsPermutation-refl}
-use Rattle.rolls.specs.declared.request.Reply.TheVariants as reply
+use Rattle.office_model.specs.declared.request.Reply.TheVariants as reply
 
 -- no changes transform no rows
 pub none_transforms : (o : State) → Transforms [] o o

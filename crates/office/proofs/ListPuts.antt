@@ -3,8 +3,8 @@
 use Rattle.std.specs.Cmp.{second_so}
 use Rattle.office.proofs.Common.{option_map_or, AllByRecursion, RANKS, Round, PutList, ReopenRound, State, has_project, round_of, last_round, round_is_open, plain_refusal, list_tests, reopening_tests, allowed, IsFit, ◌≡◌, ℕ, zero, suc, ◌≤◌, [], Option, Some, None, refl, ap, arith, ◌==◌, true, false, ◌&&◌, nat_le, List, is_some}
 use Rattle.std.proofs.lemmas.Bool.Decides.{nat_tests}
-use Rattle.rolls.proofs.LastRound.{some_round}
-use Rattle.change_laws.proofs.KnownChoices.{choices_known}
+use Rattle.office_model.proofs.LastRound.{some_round}
+use Rattle.office.proofs.changes.KnownChoices.{choices_known}
 
 open_found : (x : Option Round) → option_map_or (λ r. r.is_open) x false ≡ true → is_some x ≡ true
 open_found None h = cc

@@ -1,7 +1,7 @@
 -- A plain request was made: the office after it is the one that is asked for, so it is fit, and the changes transform the rows.
 use Rattle.office.proofs.Common.{option_map_or, Round, Plain, Done, put, State, round_key, round_of, last_round, IsFit, Transforms, plain_refusal, after_plain, plain_reply, with_last, IsDone, changes_of, ◌≡◌, Option, Some, None, sym, ap, subst, ◌∙◌, List}
-use Rattle.change_laws.proofs.StaysFit.{stays_fit}
-use Rattle.change_laws.proofs.PlainTransforms.{changes_transform}
+use Rattle.office.proofs.changes.StaysFit.{stays_fit}
+use Rattle.office.proofs.changes.PlainTransforms.{changes_transform}
 
 module _ (q : Plain) (inside old : State) (seen : inside ≡ old) (none : plain_refusal old q ≡ None) (fit : IsFit inside) where
   pub made_fit : (new : State) → new ≡ after_plain q old → IsFit new

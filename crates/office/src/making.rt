@@ -4,7 +4,7 @@ ghost use Rattle.std.specs.Prelude.{◌≡◌, ◌∷◌, ℕ, List, [], IfOk, I
 ghost use Rattle.office.specs.Common.{put_or_added, project_cells, student_cells, supervisor_cells};
 ghost use Rattle.spa.specs.Text.{is_code, is_label};
 
-use rolls::{Change, Project, Row, Student, Supervisor, Table, Text};
+use office_model::{Change, Project, Row, Student, Supervisor, Table, Text};
 use spa::{Code, Label};
 use std::alloc::{AllocError, Global};
 

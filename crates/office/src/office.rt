@@ -11,10 +11,10 @@ mod rounds;
 
 ghost use Rattle.std.specs.Prelude.{◌≡◌, ◌∷◌, ℕ, not, IfOk, IsOk, OnErr, Err, None, []};
 ghost use Rattle.office.specs.Common.{State, empty, IsFit, first, plain_refusal, refusal_of, round_tests, Answers, IsDone, AreRowsOf, changes_of};
-ghost use Rattle.decoding.specs.View.{drafted};
+ghost use Rattle.office.specs.from_rows.View.{drafted};
 
-use decoding::{PartialOffice, RowsFault, gather};
-use rolls::{
+use crate::from_rows::{PartialOffice, RowsFault, gather};
+use office_model::{
     Done, Entries, Import, Placement, Plain, Project, Refusal, Reply, Request, Round, RoundAim,
     Row, Student, Supervisor,
 };
@@ -35,8 +35,8 @@ pub struct Office {
 }
 
 impl Model for Office {
-    ghost use Rattle.rolls.specs.State.{State};
-    ghost use Rattle.rolls.specs.Fit.{IsFit};
+    ghost use Rattle.office_model.specs.State.{State};
+    ghost use Rattle.office_model.specs.Fit.{IsFit};
     ghost use Rattle.office.specs.View.{state_of};
 
     ghost Value = { State };

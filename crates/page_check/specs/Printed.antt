@@ -1,8 +1,8 @@
 -- What is printed of the text of a round file, on whatever stream and with whatever status a program prints it.
 use Rattle.std.specs.Prelude.{◌≡◌, ℕ, List, [], ◌∷◌, ◌++◌, Result, Ok, Err, String, codes, decimal, string_bytes}
 use Rattle.std.specs.declared.alloc.Global.{Global}
-use Rattle.rolls.specs.declared.refusal.Refusal.{Refusal}
-use Rattle.rolls.specs.RefusalInfo.{number_of, name_of}
+use Rattle.office_model.specs.declared.refusal.Refusal.{Refusal}
+use Rattle.office_model.specs.RefusalInfo.{number_of, name_of}
 use Rattle.round_files.specs.declared.rounds.Trouble.{Trouble}
 use Rattle.round_files.specs.declared.rounds.Trouble.TheVariants.{Refused, BadLine, Failed}
 use Rattle.round_files.specs.Rounds.{IsChecked, IsPublished, IsSolved}

@@ -11,7 +11,7 @@ mod tests;
 ghost use Rattle.std.specs.Prelude.{◌≡◌, ◌≢◌, ◌≤◌, IfOk, length, take, string_bytes};
 ghost use Rattle.page_check.specs.Printed.{line_of, refused_line, IsPrintedByCheck, IsPrintedByCheckOwn, IsPrintedByPublish, IsPrintedBySolve};
 
-use rolls::Refusal;
+use office_model::Refusal;
 use round_files::{Trouble, checked, checked_own, published, solved};
 use std::alloc::{AllocError, Global};
 use std::fmt::Write;

@@ -10,14 +10,14 @@ use Rattle.sqlite.specs.Effect.{Database}
 use Rattle.sqlite.specs.State.{HasCleanDisk}
 use Rattle.sqlite.specs.Held.{Held}
 use Rattle.sqlite.specs.Files.{AreFoundIn, HoldsDatabase, file_state, image_of}
-use Rattle.rolls.specs.State.{State}
+use Rattle.office_model.specs.State.{State}
 use Rattle.store.specs.Editions.{latest}
 use Rattle.store.specs.Tables.{Opens}
 use Rattle.store.proofs.Standing.{in_latest}
-use Rattle.wire.specs.declared.outcome.Served.{Served}
-use Rattle.wire.specs.Run.{MessageText}
-use Rattle.wire.specs.declared.outcome.End.{End}
-use Rattle.wire.specs.Served.{Serves, ServedTo}
+use Rattle.http_stream.specs.declared.outcome.Served.{Served}
+use Rattle.http_stream.specs.Run.{MessageText}
+use Rattle.http_stream.specs.declared.outcome.End.{End}
+use Rattle.http_stream.specs.Served.{Serves, ServedTo}
 use Rattle.page_office.specs.Served.{IsDamagedFile, IsFoundIn, IsOfficeOf, IsServedOver, alone}
 use Rattle.page_office.specs.Inside.Between.{IsBegun, IsDamagedIn, IsServedBetween}
 

@@ -4,13 +4,13 @@ use Rattle.sqlite_trees.specs.Tree.{Trees}
 use Rattle.sqlite_wal.specs.Recovery.{Image}
 use Rattle.sqlite.specs.Effect.{Database, IsDatabase}
 use Rattle.sqlite.specs.Files.{AreFoundIn, HoldsDatabase}
-use Rattle.rolls.specs.State.{State, empty}
-use Rattle.rolls.specs.Fit.{IsFit}
+use Rattle.office_model.specs.State.{State, empty}
+use Rattle.office_model.specs.Fit.{IsFit}
 use Rattle.store.specs.declared.edition.Edition.{Edition}
 use Rattle.store.specs.Reading.{IsDamaged}
 use Rattle.store.specs.Tables.{HasNone, StandsFor, StandsIn}
-use Rattle.wire.specs.declared.outcome.End.{End}
-use Rattle.wire.specs.Served.{Serves}
+use Rattle.http_stream.specs.declared.outcome.End.{End}
+use Rattle.http_stream.specs.Served.{Serves}
 use Rattle.web.specs.Serving.{AnswersMessage, AtDesk, end_text, just_opened}
 
 -- a database file, with no log next to it

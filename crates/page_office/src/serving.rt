@@ -8,7 +8,7 @@ ghost use Rattle.page_office.specs.Served.{IsDamagedFile, IsServedOver};
 ghost use Rattle.page_office.specs.Inside.Between.{IsDamagedAt, IsDamagedIn, IsServedAt, IsServedBetween};
 
 use desk::Desk;
-use rolls::Refusal;
+use office_model::Refusal;
 use sqlite::{Alter, Connection, Error, ErrorCode, FileStore, Files, Options};
 use sqlite_disk::{Disk, Memory};
 use std::alloc::{AllocError, Global};

@@ -1,8 +1,8 @@
 -- The instances that an office has.
 use Rattle.std.specs.Prelude.{◌≡◌, ℕ, List}
 use Rattle.spa.specs.Instance.{Instance}
-use Rattle.rolls.specs.State.{State}
-use Rattle.rolls.specs.Instances.{instance_left}
+use Rattle.office_model.specs.State.{State}
+use Rattle.office_model.specs.Instances.{instance_left}
 
 -- the instance of a round of the office, whatever is taken
 pub record IsRoundOf (o : State) (l : Instance) : Type 0 where

@@ -4,14 +4,14 @@ use Rattle.std.specs.Option.{option_map_or}
 use Rattle.std.specs.List.{range_with_len}
 use Rattle.std.specs.Str.{bytes_eq}
 use Rattle.spa.specs.declared.TheConstants.{RANKS}
-use Rattle.rolls.specs.declared.entries.Supervisor.{Supervisor}
-use Rattle.rolls.specs.declared.entries.Project.{Project}
-use Rattle.rolls.specs.declared.entries.Student.{Student}
-use Rattle.rolls.specs.declared.rounds.Placement.{Placement}
-use Rattle.rolls.specs.declared.report.ReportKind.{ReportKind}
-use Rattle.rolls.specs.declared.report.ReportKind.TheVariants.{Profile, Loads, Unplaced, Placements, Offers, Missing, Text}
-use Rattle.rolls.specs.State.{State, aim_of, placement_of, is_open, is_placed_before, lists_of, has_list, placed_in_project_by, placed_with_supervisor_by, placed_in_round, placed_at_rank}
-use Rattle.rolls.specs.Instances.{instance_of_round}
+use Rattle.office_model.specs.declared.entries.Supervisor.{Supervisor}
+use Rattle.office_model.specs.declared.entries.Project.{Project}
+use Rattle.office_model.specs.declared.entries.Student.{Student}
+use Rattle.office_model.specs.declared.rounds.Placement.{Placement}
+use Rattle.office_model.specs.declared.report.ReportKind.{ReportKind}
+use Rattle.office_model.specs.declared.report.ReportKind.TheVariants.{Profile, Loads, Unplaced, Placements, Offers, Missing, Text}
+use Rattle.office_model.specs.State.{State, aim_of, placement_of, is_open, is_placed_before, lists_of, has_list, placed_in_project_by, placed_with_supervisor_by, placed_in_round, placed_at_rank}
+use Rattle.office_model.specs.Instances.{instance_of_round}
 use Rattle.intake.specs.Lines.{instance_text}
 
 -- a text, and spaces after it up to a width; a longer text stays as it is

@@ -1,10 +1,10 @@
 //! Look-ups by key among the entries that an office lends.
 
 ghost use Rattle.std.specs.Prelude.{◌≡◌, option_copied};
-ghost use Rattle.rolls.specs.State.{round_of, placement_of};
+ghost use Rattle.office_model.specs.State.{round_of, placement_of};
 
 use office::Office;
-use rolls::{Placement, Round, find};
+use office_model::{Placement, Round, find};
 
 /// Lends the round with this number.
 pub fn round_of(office: &Office, round: u32) -> Option<&Round>

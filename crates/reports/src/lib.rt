@@ -14,15 +14,15 @@ mod students_report;
 mod text_report;
 
 ghost use Rattle.std.specs.Prelude.{◌≡◌, ◌⊎◌, IfOk, IfErr, Some, None, string_bytes};
-ghost use Rattle.rolls.specs.Refusing.{refusal_of};
-ghost use Rattle.rolls.specs.declared.request.Request.TheVariants as request;
+ghost use Rattle.office_model.specs.Refusing.{refusal_of};
+ghost use Rattle.office_model.specs.declared.request.Request.TheVariants as request;
 ghost use Rattle.reports.specs.Texts.{report_text};
 
 use office::Office;
+use office_model::{Refusal, ReportKind, Request};
 use placements_report::placements;
 use places_report::{Places, by_supervisor};
 use profile_report::profile;
-use rolls::{Refusal, ReportKind, Request};
 use std::alloc::Global;
 use students_report::{Whom, students};
 pub use text_report::instance_text;

@@ -4,7 +4,7 @@ ghost use Rattle.std.specs.Prelude.{◌≡◌, ◌++◌, ◌∷◌, [], ◌==◌
 ghost use Rattle.reports.specs.Texts.{placement_line, placements_text};
 
 use office::Office;
-use rolls::Placement;
+use office_model::Placement;
 use std::alloc::{AllocError, Global};
 use std::fmt::Write;
 

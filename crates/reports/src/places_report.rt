@@ -3,12 +3,12 @@
 ghost use Rattle.std.specs.Prelude.{◌≡◌, ◌<◌, ◌++◌, ◌∷◌, [], ℕ, Some, IfOk, OnOk, slice_get, string_bytes, flat_map, filter};
 ghost use Rattle.std.specs.Str.{bytes_eq};
 ghost use Rattle.spa.specs.declared.TheConstants.{MAX_PROJECTS, MAX_SUPERVISORS};
-ghost use Rattle.rolls.specs.State.{State};
+ghost use Rattle.office_model.specs.State.{State};
 ghost use Rattle.reports.specs.Inside.Texts.{AreLoads, own_rows, project_row, rows_of};
 ghost use Rattle.reports.specs.Texts.{left, load_row, right};
 
 use office::Office;
-use rolls::{Project, Supervisor, counted};
+use office_model::{Project, Supervisor, counted};
 use spa::{Code, Counts};
 use std::alloc::{AllocError, Global};
 use std::fmt::Write;

@@ -3,7 +3,7 @@
 ghost use Rattle.std.specs.Prelude.{◌≡◌, ◌++◌, IfOk, OnOk, string_bytes, flat_map};
 ghost use Rattle.std.specs.List.{range_with_len};
 ghost use Rattle.spa.specs.declared.TheConstants.{RANKS};
-ghost use Rattle.rolls.specs.State.{is_open, placed_in_round, placed_at_rank};
+ghost use Rattle.office_model.specs.State.{is_open, placed_in_round, placed_at_rank};
 ghost use Rattle.reports.specs.Texts.{rank_row, state_word, profile_text};
 
 use crate::find::round_of;

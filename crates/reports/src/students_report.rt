@@ -1,13 +1,13 @@
 //! The reports `unplaced` and `missing`.
 
 ghost use Rattle.std.specs.Prelude.{◌≡◌, ◌++◌, ◌∷◌, [], IfOk, OnOk, string_bytes, flat_map, filter};
-ghost use Rattle.rolls.specs.State.{is_placed_before};
+ghost use Rattle.office_model.specs.State.{is_placed_before};
 ghost use Rattle.reports.specs.Inside.Texts.{is_named};
 ghost use Rattle.reports.specs.Texts.{is_placed_by, student_line};
 
 use crate::find::placement_of;
 use office::Office;
-use rolls::Student;
+use office_model::Student;
 use std::alloc::{AllocError, Global};
 use std::fmt::Write;
 

@@ -2,8 +2,8 @@
 
 ghost use Rattle.std.specs.Prelude.{◌≡◌, IfOk, string_bytes};
 ghost use Rattle.spa.specs.Named.{instance_of};
-ghost use Rattle.rolls.specs.State.{aim_of};
-ghost use Rattle.rolls.specs.Instances.{instance_of_round};
+ghost use Rattle.office_model.specs.State.{aim_of};
+ghost use Rattle.office_model.specs.Instances.{instance_of_round};
 ghost use Rattle.intake.specs.Lines.{instance_text};
 ghost use Rattle.reports.specs.Rounds.{IsRoundOf};
 

@@ -6,8 +6,8 @@ use Rattle.spa.specs.Order.{order}
 use Rattle.public_result.specs.Posted.{IsCleared}
 use Rattle.intake.specs.Public.{IsPublicReading}
 use Rattle.intake.specs.declared.public_parts.PublicParts.{PublicParts}
-use Rattle.rolls.specs.declared.refusal.Refusal.{Refusal}
-use Rattle.rolls.specs.declared.refusal.Refusal.TheVariants.{Memory as NoMemory}
+use Rattle.office_model.specs.declared.refusal.Refusal.{Refusal}
+use Rattle.office_model.specs.declared.refusal.Refusal.TheVariants.{Memory as NoMemory}
 use Rattle.round_files.specs.Public.{IsCheckedOwn, IsJudgedBy, IsJudgedOwn, IsPublicTrouble}
 use Rattle.round_files.specs.declared.rounds.Trouble.{Trouble}
 use Rattle.round_files.specs.declared.rounds.Trouble.TheVariants.{Refused, BadLine, Failed}

@@ -18,7 +18,7 @@ use Rattle.intake.specs.Public.{IsPublicReading, posted_parts}
 use Rattle.intake.specs.declared.public_parts.PublicParts.{PublicParts}
 use Rattle.intake.specs.declared.round.RoundParts.{RoundParts}
 use Rattle.intake.specs.declared.round.RoundFault.TheVariants.{TooLarge, Line}
-use Rattle.rolls.specs.declared.refusal.Refusal.TheVariants.{Memory as NoMemory, TooLarge as AboveLimit}
+use Rattle.office_model.specs.declared.refusal.Refusal.TheVariants.{Memory as NoMemory, TooLarge as AboveLimit}
 use Rattle.round_files.specs.declared.rounds.Trouble.{Trouble}
 use Rattle.round_files.specs.declared.rounds.Trouble.TheVariants.{Refused, BadLine, Failed}
 

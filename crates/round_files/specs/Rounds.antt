@@ -20,7 +20,7 @@ use Rattle.round_files.specs.Public.{IsCheckedPublic, IsPublication}
 use Rattle.intake.specs.declared.round.RoundParts.{RoundParts}
 use Rattle.intake.specs.declared.round.RoundFault.TheVariants.{TooLarge, Line}
 use Rattle.verdict.specs.declared.conditions.Proved.{Proved}
-use Rattle.rolls.specs.declared.refusal.Refusal.TheVariants.{Memory as NoMemory, TooLarge as AboveLimit}
+use Rattle.office_model.specs.declared.refusal.Refusal.TheVariants.{Memory as NoMemory, TooLarge as AboveLimit}
 use Rattle.round_files.specs.declared.rounds.Trouble.{Trouble}
 use Rattle.round_files.specs.declared.rounds.Trouble.TheVariants.{Refused, BadLine, Failed}
 

@@ -8,7 +8,7 @@ ghost use Rattle.round_files.specs.Rounds.{best_text, fault_text, IsSolved, IsCh
 
 use crate::public::checked_public;
 use intake::{RoundFault, RoundParts, is_public, read_round, write_round};
-use rolls::Refusal;
+use office_model::Refusal;
 use solver::solve;
 use spa::profile;
 use std::alloc::{AllocError, Global};
@@ -28,7 +28,7 @@ pub enum Trouble {
 
 impl From<AllocError> for Trouble {
     ghost use Rattle.std.specs.Prelude.{◌≡◌};
-    ghost use Rattle.rolls.specs.declared.refusal.Refusal.TheVariants.{Memory};
+    ghost use Rattle.office_model.specs.declared.refusal.Refusal.TheVariants.{Memory};
     ghost use Rattle.round_files.specs.declared.rounds.Trouble.TheVariants.{Refused};
 
     ghost from_gives = { λ _ t. t ≡ Refused Memory };

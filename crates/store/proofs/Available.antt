@@ -12,18 +12,18 @@ use Rattle.sqlite_sql.specs.Ops.{fits_i64}
 use Rattle.sqlite_rules.proofs.KeyLemmas.{agree_back}
 use Rattle.sqlite_rules.proofs.ProbeLemmas.{has_mapped}
 use Rattle.store.proofs.Common.{drop-map, filter_same, ◌≡◌, ◌⊎◌, inl, inr, ℕ, ℤ, pos, zero, suc, ◌≤◌, ◌<◌, ◌^◌, ◌+◌, List, [], ◌∷◌, not, codes, drop, filter, length, map, slice_get, None, Some, Bool, true, refl, sym, ap, subst, ◌∙◌, arith, if◌then◌else◌, AllByRecursion, list_any, IsPermutation, and_from, false_from_ne_true, not-true, IsPermutation-sym, length_permutation, Values, value_cmp, AnyTable, has_rowid, rowid, without_rowid, Database, IsDatabase, Null, Int, Words, Blob, value_cmp_total, agree, equal, passes_checks, Has, all_has, has_got, has_filtered, has_kept, some_has, IsPermutation-filter, filter-map, Cell, Text, Number, Bytes, Table, Edition, Supervisor, Project, Student, Round, Import, RoundAim, Choice, Placement, Change, Add, Put, Remove, AllRows, Cells, IsRow, RowOf, begins, key_in, same_table, shared_by, AreFresh, IsFresh, after_change, table_of, flag, ImportKind, Supervisors, Projects, Students, OfLists, word_of, InPlace, New, CanFind, IsMade, IsRefusedIn, OfEntry, adding, changing, replacing, each_of, leaving, IsGiven, IsLow, IsNumber, are_of, kinds_of, second_so, fits, free, inert_here, is_first_of, stays_entered, stays_left, Lists, cells, laid_out, made_here, shape_of, table_at, begins_with, rowid_is, IsHinderedAmong, applying, IsLeftAlone, Needs, TablesHold, ◌&&◌, false}
-use Rattle.row_model.specs.declared.cell.Kind.{Kind}
-use Rattle.row_model.specs.declared.cell.Kind.TheVariants.{Number as OfNumber}
-use Rattle.row_model.specs.declared.row.Group.{Group}
-use Rattle.row_model.specs.declared.row.Group.TheVariants.{List as OfList, Placed}
-use Rattle.change_laws.specs.Allowed.{AreAllowed, IsAllowedChange, IsKnown, IsPut, IsShort, IsWithin}
-use Rattle.tables.specs.declared.statements.Entering.{Entering}
-use Rattle.tables.specs.Ours.{HasRoom, IsOurs}
-use Rattle.tables.proofs.References.{IsParent, links_of}
-use Rattle.tables.proofs.Rowids.{none_has, permuted_has}
-use Rattle.tables.proofs.Sized.{IsSmall}
-use Rattle.tables.proofs.Stored.{AgreesAt, IsTyped, aim_checked, aim_typed, choice_agrees, choice_checked, choice_typed, equal_ids, import_agrees, import_checked, import_typed, names_at, placement_agrees, placement_checked, placement_typed, project_agrees, project_checked, project_typed, round_agrees, round_begins, round_checked, aim_begins, second_agrees, round_typed, student_agrees, student_checked, student_typed, supervisor_agrees, supervisor_checked, supervisor_typed}
-use Rattle.tables.proofs.Taken.{IsGood, IsUnshared, in_place, none_goes, one_more, some_go, stored}
+use Rattle.schema.specs.declared.cell.Kind.{Kind}
+use Rattle.schema.specs.declared.cell.Kind.TheVariants.{Number as OfNumber}
+use Rattle.schema.specs.declared.row.Group.{Group}
+use Rattle.schema.specs.declared.row.Group.TheVariants.{List as OfList, Placed}
+use Rattle.office.specs.changes.Allowed.{AreAllowed, IsAllowedChange, IsKnown, IsPut, IsShort, IsWithin}
+use Rattle.sql_tables.specs.declared.statements.Entering.{Entering}
+use Rattle.sql_tables.specs.Ours.{HasRoom, IsOurs}
+use Rattle.sql_tables.proofs.References.{IsParent, links_of}
+use Rattle.sql_tables.proofs.Rowids.{none_has, permuted_has}
+use Rattle.sql_tables.proofs.Sized.{IsSmall}
+use Rattle.sql_tables.proofs.Stored.{AgreesAt, IsTyped, aim_checked, aim_typed, choice_agrees, choice_checked, choice_typed, equal_ids, import_agrees, import_checked, import_typed, names_at, placement_agrees, placement_checked, placement_typed, project_agrees, project_checked, project_typed, round_agrees, round_begins, round_checked, aim_begins, second_agrees, round_typed, student_agrees, student_checked, student_typed, supervisor_agrees, supervisor_checked, supervisor_typed}
+use Rattle.sql_tables.proofs.Taken.{IsGood, IsUnshared, in_place, none_goes, one_more, some_go, stored}
 use Rattle.store.specs.Inside.Saving.{AppliesOne}
 use Rattle.store.proofs.Held.{applies_one}
 use Rattle.store.specs.Available.{LeavesRoom}

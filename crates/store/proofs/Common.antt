@@ -1,17 +1,17 @@
 -- The names that most proofs here cite, passed on from one place. Declares nothing.
-pub use Rattle.change_laws.proofs.Changes.{after_both, by_table, change_elsewhere, change_here, AreFree, fresh_both, nothing_transforms}
-pub use Rattle.change_laws.proofs.Same.{from_same, to_same}
-pub use Rattle.rolls.specs.Fit.{ImportFits, IsFit, ListFits, PlacementFits, ProjectFits, StudentFits, SupervisorFits, are_aimed}
-pub use Rattle.rolls.specs.Kinds.{word_of}
-pub use Rattle.rolls.specs.Rows.{AreRowsOf, aim_cells, choice_rows, flag, import_cells, is_generous, list_rows, placement_cells, project_cells, round_cells, rows_in, rows_of_round, student_cells, supervisor_cells}
-pub use Rattle.rolls.specs.State.{State, choices_in, empty, has_project, has_student, has_supervisor, list_key, list_of, project_key, project_of, round_key, round_of, student_key, student_of, supervisor_key, supervisor_of, aim_key}
-pub use Rattle.rolls.specs.declared.import.ImportKind.TheVariants.{Lists as OfLists, Projects, Students, Supervisors}
-pub use Rattle.rolls.specs.declared.import.ImportKind.{ImportKind}
-pub use Rattle.rolls.specs.declared.rounds.RoundAim.{RoundAim as AimEntry}
-pub use Rattle.row_model.proofs.Tables.{same_table_is, same_table_self}
-pub use Rattle.row_model.specs.Changes.{AreFresh, IsFresh, after_change, after_changes, changed, is_in_part, makes, table_of}
-pub use Rattle.row_model.specs.Rows.{AllRows, Cells, IsPart, IsRow, PartOf, RowOf, SameRows, are_of, begins, is_of, key_in, kinds_of, of_table, same_cell, same_table, shared_by, shared_kinds, keyed}
-pub use Rattle.row_model.specs.declared.table.Table.TheVariants.{Choice, Edition, Import, Placement, Project, Round, RoundAim, Student, Supervisor}
+pub use Rattle.office.proofs.changes.Changes.{after_both, by_table, change_elsewhere, change_here, AreFree, fresh_both, nothing_transforms}
+pub use Rattle.office.proofs.changes.Same.{from_same, to_same}
+pub use Rattle.office_model.specs.Fit.{ImportFits, IsFit, ListFits, PlacementFits, ProjectFits, StudentFits, SupervisorFits, are_aimed}
+pub use Rattle.office_model.specs.Kinds.{word_of}
+pub use Rattle.office_model.specs.Rows.{AreRowsOf, aim_cells, choice_rows, flag, import_cells, is_generous, list_rows, placement_cells, project_cells, round_cells, rows_in, rows_of_round, student_cells, supervisor_cells}
+pub use Rattle.office_model.specs.State.{State, choices_in, empty, has_project, has_student, has_supervisor, list_key, list_of, project_key, project_of, round_key, round_of, student_key, student_of, supervisor_key, supervisor_of, aim_key}
+pub use Rattle.office_model.specs.declared.import.ImportKind.TheVariants.{Lists as OfLists, Projects, Students, Supervisors}
+pub use Rattle.office_model.specs.declared.import.ImportKind.{ImportKind}
+pub use Rattle.office_model.specs.declared.rounds.RoundAim.{RoundAim as AimEntry}
+pub use Rattle.schema.proofs.Tables.{same_table_is, same_table_self}
+pub use Rattle.schema.specs.Changes.{AreFresh, IsFresh, after_change, after_changes, changed, is_in_part, makes, table_of}
+pub use Rattle.schema.specs.Rows.{AllRows, Cells, IsPart, IsRow, PartOf, RowOf, SameRows, are_of, begins, is_of, key_in, kinds_of, of_table, same_cell, same_table, shared_by, shared_kinds, keyed}
+pub use Rattle.schema.specs.declared.table.Table.TheVariants.{Choice, Edition, Import, Placement, Project, Round, RoundAim, Student, Supervisor}
 pub use Rattle.spa.specs.declared.aim.Aim.TheVariants.{Generous, Greedy}
 pub use Rattle.sqlite.proofs.StateLemmas.{survives_then, survives_weaker}
 pub use Rattle.sqlite.specs.Order.{Row as Values, column, value_cmp}
@@ -45,17 +45,17 @@ pub use Rattle.store.specs.Saving.{AllNeed, AreActedOnAmong, AreInert, AreLeftAm
 pub use Rattle.store.specs.Tables.{AreRuled, Brings, HasNone, HasNoneOf, HoldIn, MakesTables, Migrates, Opens, StandsFor, StandsIn, TablesHold, TablesOf, numbered}
 pub use Rattle.store.specs.declared.edition.Edition.TheVariants.{First, Second, Third}
 pub use Rattle.store.specs.declared.fault.StoreFault.TheVariants.{Damaged, Storage}
-pub use Rattle.tables.proofs.Causes.{stopped_after, stopped_as, stopped_before}
-pub use Rattle.tables.proofs.KeyTests.{equal_int, rowid_is}
-pub use Rattle.tables.proofs.Made.{enters, leaves}
-pub use Rattle.tables.proofs.Ours.{IsGiven, IsLow, IsNumber, fits, free, inert_here, is_first_of, stays_entered, stays_left}
-pub use Rattle.tables.proofs.Outcomes.{did_all, known_so, one_and_rest, runs_more, runs_runs, runs_steps, runs_stopped, steps_runs}
-pub use Rattle.tables.proofs.Runs.{decide_table, listed_at_one, listed_once, low_tree, part_err, part_none, rests_then, stands_apart, stands_beside, stands_kept, stays_none, survives_both, survives_none}
-pub use Rattle.tables.specs.Causes.{CanFind, IsCaused, IsMade, IsRefusedIn, IsStopped, IsUnread, OfEntry, adding, changing, replacing}
-pub use Rattle.tables.specs.Inside.Steps.{Runs, Stays}
-pub use Rattle.tables.specs.Layout.{IsListed, IsUnlisted, is_there}
-pub use Rattle.tables.specs.Steps.{HasSaved, HasStepped, IsKept, IsReading, MayRecoverTo, Rests, Shows}
-pub use Rattle.tables.specs.Table.{Lists, Place, cells, laid_out, made_here, rules_of, shape_of, table_at}
-pub use Rattle.tables.specs.Writes.{Adds, Creates, Enters, Leaves, WritesOnly, begins_with, goes_on, with_row}
-pub use Rattle.tables.specs.declared.fault.TableFault.{TableFault}
-pub use Rattle.tables.specs.declared.statements.Entering.TheVariants.{InPlace, New}
+pub use Rattle.sql_tables.proofs.Causes.{stopped_after, stopped_as, stopped_before}
+pub use Rattle.sql_tables.proofs.KeyTests.{equal_int, rowid_is}
+pub use Rattle.sql_tables.proofs.Made.{enters, leaves}
+pub use Rattle.sql_tables.proofs.Ours.{IsGiven, IsLow, IsNumber, fits, free, inert_here, is_first_of, stays_entered, stays_left}
+pub use Rattle.sql_tables.proofs.Outcomes.{did_all, known_so, one_and_rest, runs_more, runs_runs, runs_steps, runs_stopped, steps_runs}
+pub use Rattle.sql_tables.proofs.Runs.{decide_table, listed_at_one, listed_once, low_tree, part_err, part_none, rests_then, stands_apart, stands_beside, stands_kept, stays_none, survives_both, survives_none}
+pub use Rattle.sql_tables.specs.Causes.{CanFind, IsCaused, IsMade, IsRefusedIn, IsStopped, IsUnread, OfEntry, adding, changing, replacing}
+pub use Rattle.sql_tables.specs.Inside.Steps.{Runs, Stays}
+pub use Rattle.sql_tables.specs.Layout.{IsListed, IsUnlisted, is_there}
+pub use Rattle.sql_tables.specs.Steps.{HasSaved, HasStepped, IsKept, IsReading, MayRecoverTo, Rests, Shows}
+pub use Rattle.sql_tables.specs.Table.{Lists, Place, cells, laid_out, made_here, rules_of, shape_of, table_at}
+pub use Rattle.sql_tables.specs.Writes.{Adds, Creates, Enters, Leaves, WritesOnly, begins_with, goes_on, with_row}
+pub use Rattle.sql_tables.specs.declared.fault.TableFault.{TableFault}
+pub use Rattle.sql_tables.specs.declared.statements.Entering.TheVariants.{InPlace, New}

@@ -1,21 +1,21 @@
 -- Each row of a fit office is a row of its table, with UTF-8 texts and small numbers.
 use Rattle.std.specs.Option.{option_map_or}
 use Rattle.store.proofs.Common.{AllByRecursion, first_so, second_so, eqb-true, ◌==◌, all_map, all-flat_map, all_weaker, Has, IsFit, SupervisorFits, ProjectFits, StudentFits, ListFits, PlacementFits, ImportFits, are_aimed, supervisor_cells, project_cells, student_cells, round_cells, aim_cells, placement_cells, import_cells, list_rows, rows_of_round, choice_rows, rows_in, flag, is_generous, State, supervisor_of, project_of, student_of, round_of, supervisor_key, project_key, student_key, round_key, list_key, has_supervisor, has_project, has_student, list_of, choices_in, Table, Edition, Supervisor, Project, Student, Round, Import, RoundAim, Choice, Placement, Cells, AnEdition, First, Second, Third, renamed, rows_in_edition, IsTyped, IsTypedRow, ◌≡◌, inl, inr, List, [], ◌∷◌, Bool, true, map, Option, Some, None, is_some, ℕ, zero, suc, ◌<◌, ◌≤◌, ◌+◌, ◌-◌, length, slice_get, IsTrue, IsUtf8, refl, sym, ap, subst, ◌∙◌, arith, ImportKind, Supervisors, word_of, false}
-use Rattle.tables.proofs.Unmade.{ascii}
+use Rattle.sql_tables.proofs.Unmade.{ascii}
 use Rattle.std.proofs.lemmas.Str.{IsUtf8-from_ascii}
 use Rattle.spa.specs.Text.{is_code}
 use Rattle.spa.specs.declared.TheConstants.{RANKS}
 use Rattle.spa.proofs.Texts.{code_utf8, label_utf8}
-use Rattle.rolls.specs.declared.TheConstants.{MAX_ROUNDS}
-use Rattle.rolls.specs.declared.rounds.Listed.{Listed}
-use Rattle.rolls.specs.declared.rounds.Placement.{Placement as PlacementEntry}
-use Rattle.rolls.specs.declared.rounds.Round.{Round as RoundEntry}
-use Rattle.rolls.specs.declared.rounds.RoundAim.{RoundAim as AimEntry}
-use Rattle.rolls.specs.Roll.{Key, find}
-use Rattle.rolls.proofs.Found.{found_key, holds_of_found}
-use Rattle.rolls.proofs.LastRound.{round_within}
-use Rattle.rolls.proofs.Shaped.{numbered_rise}
-use Rattle.change_laws.proofs.Found.{StandsIn, each_found}
+use Rattle.office_model.specs.declared.TheConstants.{MAX_ROUNDS}
+use Rattle.office_model.specs.declared.rounds.Listed.{Listed}
+use Rattle.office_model.specs.declared.rounds.Placement.{Placement as PlacementEntry}
+use Rattle.office_model.specs.declared.rounds.Round.{Round as RoundEntry}
+use Rattle.office_model.specs.declared.rounds.RoundAim.{RoundAim as AimEntry}
+use Rattle.office_model.specs.Roll.{Key, find}
+use Rattle.office_model.proofs.Found.{found_key, holds_of_found}
+use Rattle.office_model.proofs.LastRound.{round_within}
+use Rattle.office_model.proofs.Shaped.{numbered_rise}
+use Rattle.office.proofs.changes.Found.{StandsIn, each_found}
 
 -- what holds of an entry holds of the row that is made of it
 all_made : {E : Type 0} (Fits : E → Type 0) (P : Cells → Type 0) (row : E → Cells) → ((e : E) → Fits e → P (row e)) → (es : List E) → AllByRecursion Fits es → AllByRecursion P (map row es)

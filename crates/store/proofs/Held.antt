@@ -1,6 +1,6 @@
 -- What one statement makes of the tables: of the rows of its table what the change makes of them, and of the others nothing.
 use Rattle.store.proofs.Common.{second_so, drop-map, filter-map, filter_same, Database, Values, all_has, Table, Edition, Change, Add, Put, Remove, AllRows, Cells, PartOf, key_in, same_table, shared_by, after_change, changed, is_in_part, makes, table_of, same_table_self, by_table, change_elsewhere, change_here, table_at, Stands, Enters, Leaves, WritesOnly, begins_with, goes_on, stands_apart, InPlace, New, latest, number_of, IsRollTable, values, Spares, TablesHold, numbered, ◌≡◌, ◌≢◌, Bool, true, not, cond, List, [], ◌∷◌, filter, map, drop, refl, sym, ap, subst, ◌∙◌, true≢false, enters, leaves, applying, false}
-use Rattle.tables.specs.Writes.{Puts, Removes}
+use Rattle.sql_tables.specs.Writes.{Puts, Removes}
 use Rattle.store.specs.Inside.Saving.{AppliesOne}
 use Rattle.store.proofs.Begins.{begins_same}
 use Rattle.store.proofs.Among.{part_in_rolls, row_in_rolls}

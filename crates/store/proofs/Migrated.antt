@@ -1,7 +1,7 @@
 -- Tables of an earlier edition are migrated: the number is another, tables come next to those that stand, and rows are added.
 use Rattle.store.proofs.Common.{◌&&◌, Int, Database, Values, Schema, AnyTable, Has, all_has, has_either, has_got, Change, AllRows, AnEdition, First, Second, Third, Table, Edition, Place, Lists, table_at, IsActedOn, Stands, with_row, listed_at_one, listed_once, stands_kept, stands_apart, beyond, latest, number_of, migrated, rolls_of, AskMigrated, IsRollTable, rolls, values, AreActedOnAmong, AreLeftAmong, IsLeftAlone, Spares, MakesTables, TablesHold, HoldIn, after_changes, TablesOf, numbered, ◌≡◌, ◌≢◌, ◌↔◌, ◌⊎◌, inl, inr, ℕ, pos, Bool, true, cond, List, [], ◌∷◌, ◌++◌, map, refl, sym, ap, subst, ◌∙◌, true≢false, InPlace, enters, latest_number, migrating, false, IsMade, changing, replacing, key_in, stays_entered, list_any}
-use Rattle.tables.proofs.Quiet.{inert_so}
-use Rattle.tables.specs.Writes.{Puts}
+use Rattle.sql_tables.proofs.Quiet.{inert_so}
+use Rattle.sql_tables.specs.Writes.{Puts}
 use Rattle.store.specs.Rows.{IsAmong}
 use Rattle.store.specs.Saving.{Applies}
 use Rattle.store.specs.Tables.{AreRuledAmong, LeavesTables}

@@ -1,9 +1,9 @@
 -- The changes that migrate an edition: old rows go by their keys, and come in the tables that took their tables' place, the aims of greedy
 -- rounds next to them. A row that goes is one of the edition's, so none is left in an old table.
 use Rattle.store.proofs.Common.{AnEdition, IsPermutation, ◌&&◌, ◌||◌, list_any, AllByRecursion, and_from, or_left, or_right, All-from_recursion, recursion_from_All, filter_passes, IsPermutation-refl, IsPermutation-trans, IsPermutation-map, IsPermutation-middle, All-permutation, filter-filter, filter_none, all_weaker, all_both, all-filter, Table, Edition, Round, RoundAim, Add, AllRows, SameRows, Cells, RowOf, begins, key_in, keyed, of_table, same_table, same_table_is, same_table_self, IsFit, aim_cells, rows_in, State, AreFree, after_both, fresh_both, change_elsewhere, nothing_transforms, from_same, to_same, First, Second, Third, AreRowsIn, migrating_changes, aim_of_round, aims_of, is_old, is_old_table, removal_of, renamed, renamed_row, renaming_changes, rows_in_edition, ◌≡◌, Bool, true, false, not, cond, List, [], ◌∷◌, ◌++◌, map, filter, refl, sym, ap, subst, ◌∙◌, append-nil}
-use Rattle.row_model.specs.Changes.{IsFresh, AreFresh, TransformsRows, after_change, after_changes}
-use Rattle.change_laws.proofs.Keyed.{begins_self}
-use Rattle.change_laws.proofs.Apart.{rows_apart, apart_free}
+use Rattle.schema.specs.Changes.{IsFresh, AreFresh, TransformsRows, after_change, after_changes}
+use Rattle.office.proofs.changes.Keyed.{begins_self}
+use Rattle.office.proofs.changes.Apart.{rows_apart, apart_free}
 use Rattle.store.proofs.OtherNames.{is_in, rows_both, renamed_twice, swapped, aims_come, no_others, greedy_rows, first_else}
 
 -- rows that are added stand next to those that were there

@@ -2,8 +2,8 @@
 -- latest.
 use Rattle.store.proofs.Common.{IsPermutation, AllByRecursion, option_map_or, All-from_recursion, recursion_from_All, IsPermutation-map, All-permutation, IsPermutation-same, all-map, all_unmap, all_weaker, Greedy, Generous, Number, Table, Round, RoundAim, Cells, RowOf, begins, of_table, same_table, AimEntry, AreRowsOf, aim_cells, rows_in, State, aim_key, IsFit, by_table, from_same, to_same, First, Second, Third, AreRowsIn, HaveNoLater, AnEdition, ◌↔◌, migrated_rows, aim_of_round, aims_of, renamed, renamed_row, rows_in_edition, ◌≡◌, false, drop, List, [], ◌∷◌, ◌++◌, map, Option, Some, None, refl, sym, ap, ◌∙◌, append-nil}
 use Rattle.spa.specs.declared.aim.Aim.{Aim}
-use Rattle.rolls.specs.Roll.{find}
-use Rattle.rolls.proofs.Found.{holds_of_found}
+use Rattle.office_model.specs.Roll.{find}
+use Rattle.office_model.proofs.Found.{holds_of_found}
 use Rattle.store.proofs.OtherNames.{rows_both, renamed_twice, swapped, aims_come, no_others, greedy_rows, first_else}
 
 -- ---- the second edition

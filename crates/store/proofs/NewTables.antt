@@ -3,8 +3,8 @@ use Rattle.store.proofs.Common.{Database, Schema, AnyTable, Seen, Trees, Value, 
 use Rattle.store.specs.Tables.{AreRuledAmong, LeavesTables}
 use Rattle.store.specs.Inside.Saving.{Empties}
 use Rattle.store.proofs.Among.{apart_edition, stands_among}
-use Rattle.tables.proofs.Founding.{IsFounding, founded}
-use Rattle.tables.specs.Ours.{HasRoom, IsOurs}
+use Rattle.sql_tables.proofs.Founding.{IsFounding, founded}
+use Rattle.sql_tables.specs.Ours.{HasRoom, IsOurs}
 use Rattle.store.specs.Available.{LeavesRoom}
 use Rattle.store.proofs.Available.{room_for}
 

@@ -8,11 +8,11 @@ use Rattle.sqlite_schema.specs.Names.{same_name}
 use Rattle.sqlite_schema.specs.declared.schema.Index.{Index}
 use Rattle.std.proofs.lemmas.Bool.Decides.{Decides-ltb}
 use Rattle.sqlite_sql.specs.Ops.{binary}
-use Rattle.tables.specs.Causes.{IsUnmade}
+use Rattle.sql_tables.specs.Causes.{IsUnmade}
 use Rattle.sqlite_catalog.specs.Change.{automatics, created, is_used, next_tree}
-use Rattle.tables.proofs.Founding.{founding}
-use Rattle.tables.proofs.Rowids.{permuted_has}
-use Rattle.tables.proofs.Taken.{one_more, stored}
+use Rattle.sql_tables.proofs.Founding.{founding}
+use Rattle.sql_tables.proofs.Rowids.{permuted_has}
+use Rattle.sql_tables.proofs.Taken.{one_more, stored}
 use Rattle.store.specs.Laws.{nothing_made}
 use Rattle.store.proofs.Among.{stands_among}
 use Rattle.store.proofs.Available.{parent_roll}

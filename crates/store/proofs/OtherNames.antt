@@ -2,9 +2,9 @@
 use Rattle.store.proofs.Common.{◌==◌, AllByRecursion, option_map_or, eqb-true, filter-append, map-map, filter-map, all_weaker, Greedy, Number, Table, Round, RoundAim, Choice, Cells, RowOf, of_table, same_table, same_table_is, same_table_self, AimEntry, aim_cells, round_cells, flag, is_generous, State, aim_key, IsFit, are_aimed, First, Second, Allows, aim_of_round, aim_row, aims_of, renamed, renamed_row, rows_in_edition, ◌≡◌, Bool, true, false, cond, List, [], ◌∷◌, ◌++◌, map, filter, Option, refl, sym, ap, subst, ◌∙◌}
 use Rattle.std.specs.Cmp.{first_so, second_so}
 use Rattle.std.proofs.lemmas.List.{map-append}
-use Rattle.rolls.specs.declared.rounds.Round.{Round as RoundEntry}
-use Rattle.rolls.proofs.Shaped.{fit_shaped}
-use Rattle.change_laws.proofs.Found.{StandsIn, each_found}
+use Rattle.office_model.specs.declared.rounds.Round.{Round as RoundEntry}
+use Rattle.office_model.proofs.Shaped.{fit_shaped}
+use Rattle.office.proofs.changes.Found.{StandsIn, each_found}
 
 -- ---- rows of all tables
 

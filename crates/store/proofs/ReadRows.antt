@@ -4,7 +4,7 @@ use Rattle.store.proofs.Among.{among_or_not, are_once, is_among, not_before, sta
 use Rattle.store.proofs.Standing.{has_permuted, rows_permuted}
 use Rattle.store.proofs.Fitness.{fit_rows, one_of_all}
 use Rattle.std.proofs.lemmas.List.Elements.{filter-append}
-use Rattle.row_model.specs.declared.cell.Kind.{Kind}
+use Rattle.schema.specs.declared.cell.Kind.{Kind}
 
 -- ---- a row
 

@@ -3,7 +3,7 @@ use Rattle.store.proofs.Common.{Database, HasCleanDisk, IsReading, Option, Resul
 use Rattle.store.proofs.ListedTables.{is_next}
 use Rattle.store.specs.Inside.Faults.{of_table}
 use Rattle.store.specs.Inside.Reading.{IsHinderedReadingIn}
-use Rattle.tables.specs.declared.fault.TableFault.TheVariants as fault
+use Rattle.sql_tables.specs.declared.fault.TableFault.TheVariants as fault
 
 -- a fault of the storage is one of a statement
 pub of_storage : (f : TableFault) → of_table f ≡ Storage → f ≡ fault.Storage

@@ -12,16 +12,16 @@ use Rattle.sqlite_trees.specs.Objects.{catalog_tree}
 use Rattle.sqlite_trees.specs.View.{is_int}
 use Rattle.sqlite.specs.declared.types.Value.{Value}
 use Rattle.std.proofs.Common.{◌≡◌, ◌⊎◌, inl, inr, ℕ, ◌+◌, ◌<◌, ◌^◌, List, [], ◌∷◌, Option, Some, None, true, false, filter, pos, slice_get, refl, sym, ap, subst, ◌∙◌, arith}
-use Rattle.tables.specs.Common.{AllByRecursion, IsAscending, IsTable, Row, Null, Int, Words, column, rowid, value_cmp}
-use Rattle.tables.specs.Keyed.{IsKeyed}
-use Rattle.tables.specs.Ours.{HasRoom, IsOurs, IsOwnIndex}
-use Rattle.tables.specs.Causes.{CanFind, IsUnread}
-use Rattle.tables.specs.Layout.{is_there}
-use Rattle.tables.specs.Table.{made_here, shape_of, table_at}
-use Rattle.tables.proofs.SameTrees.{listed_so}
-use Rattle.tables.proofs.Ours.{is_first_of}
+use Rattle.sql_tables.specs.Common.{AllByRecursion, IsAscending, IsTable, Row, Null, Int, Words, column, rowid, value_cmp}
+use Rattle.sql_tables.specs.Keyed.{IsKeyed}
+use Rattle.sql_tables.specs.Ours.{HasRoom, IsOurs, IsOwnIndex}
+use Rattle.sql_tables.specs.Causes.{CanFind, IsUnread}
+use Rattle.sql_tables.specs.Layout.{is_there}
+use Rattle.sql_tables.specs.Table.{made_here, shape_of, table_at}
+use Rattle.sql_tables.proofs.SameTrees.{listed_so}
+use Rattle.sql_tables.proofs.Ours.{is_first_of}
 use Rattle.store.specs.Common.{AnyTable, Database, Has, IsDatabase, Lists, Place, State, Table, Trees}
-use Rattle.row_model.specs.declared.table.Table.TheVariants.{Choice, Edition, Supervisor}
+use Rattle.schema.specs.declared.table.Table.TheVariants.{Choice, Edition, Supervisor}
 use Rattle.store.specs.declared.edition.Edition.{Edition as AnEdition}
 use Rattle.store.specs.declared.edition.Edition.TheVariants.{First, Second, Third}
 use Rattle.store.specs.Causes.{IsHinderedOpening, IsHinderedReading}

@@ -1,11 +1,11 @@
 -- Two databases with the same trees list the same tables, so these hold the same rows, in one edition, and the rows determine the office.
 use Rattle.store.proofs.Common.{IsPermutation, IsPermutation-trans, IsPermutation-sym, IsPermutation-same, Database, IsDatabase, Values, AnyTable, Has, Table, Choice, Edition, RoundAim, Place, cells, table_at, Stands, listed_once, AllRows, RowOf, SameRows, of_table, IsFit, AreRowsOf, State, AnEdition, First, Second, Third, HaveNoLater, migrated_rows, rows_in_edition, all_tables, values, beyond, latest, number_of, rolls_of, HasNoneOf, HoldIn, Opens, StandsIn, TablesOf, numbered, ◌≡◌, ◌⊎◌, ◌<◌, arith, ℕ, List, refl, sym, subst, ◌∙◌, map, inl, inr, all-map, map_back, Cells, same_table, [], ◌∷◌, ◌++◌, Bool, true, cond, ap, append-nil, false}
-use Rattle.tables.proofs.SameTrees.{listed_so, stands_so}
-use Rattle.change_laws.specs.Laws.{RowsGiveOffice}
+use Rattle.sql_tables.proofs.SameTrees.{listed_so, stands_so}
+use Rattle.office.specs.changes.Laws.{RowsGiveOffice}
 use Rattle.store.proofs.Among.{among_or_not, is_among}
 use Rattle.store.proofs.Standing.{in_latest, stand_as, rows_permuted}
-use Rattle.row_model.specs.Rows.{all_tables}
-use Rattle.change_laws.proofs.Keyed.{filter_alike}
+use Rattle.schema.specs.Rows.{all_tables}
+use Rattle.office.proofs.changes.Keyed.{filter_alike}
 use Rattle.store.proofs.ReadRows.{of_both}
 use Rattle.store.proofs.MigratingRows.{rows_migrate}
 

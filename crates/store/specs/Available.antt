@@ -2,8 +2,8 @@
 use Rattle.std.specs.Prelude.{◌≡◌, ◌+◌, ◌≤◌, ◌^◌, ℕ, List, false, length}
 use Rattle.store.specs.Common.{AnyTable, Database, IsDatabase, Change, AllRows}
 use Rattle.std.specs.List.{list_any}
-use Rattle.change_laws.specs.Allowed.{AreAllowed}
-use Rattle.tables.specs.Ours.{HasRoom, IsOurs}
+use Rattle.office.specs.changes.Allowed.{AreAllowed}
+use Rattle.sql_tables.specs.Ours.{HasRoom, IsOurs}
 use Rattle.store.specs.Tables.{TablesHold}
 
 -- tables as they are made here, with rowids left for the rows of any request

@@ -1,7 +1,7 @@
 -- What the calls of the store come to, and why the tables are not made, read or changed, for another cause than running out of memory.
 use Rattle.std.specs.Prelude.{◌⊎◌, ◌∷◌, ℕ, List, [], Option}
 use Rattle.store.specs.Common.{Database, Has, Number, Change, Add, Put, Remove, Table, EditionTable as Edition, Cells, IsPart, IsRow, RowOf, table_at, IsUnread, Outcome, each_of, entry, followed_by, leaving, making, of_known, Edition as AnEdition, State, AreRowsIn, migrating_changes}
-use Rattle.tables.specs.declared.statements.Entering.TheVariants.{InPlace, New}
+use Rattle.sql_tables.specs.declared.statements.Entering.TheVariants.{InPlace, New}
 use Rattle.store.specs.declared.transaction.Task.{Task}
 use Rattle.store.specs.declared.transaction.Task.TheVariants.{Create, Migrate, Save}
 use Rattle.store.specs.Editions.{IsEarlier, beyond, latest, number_of, migrated, rolls_of}

@@ -1,17 +1,17 @@
 -- The names that most definitions and contracts here cite, passed on from one place. Declares nothing.
 pub use Rattle.store.specs.Migration.{Allows, AreRowsIn, migrating_changes, olds, rows_in_edition}
 pub use Rattle.store.specs.declared.edition.Edition.{Edition}
-pub use Rattle.rolls.specs.Fit.{IsFit}
-pub use Rattle.rolls.specs.Rows.{AreRowsOf, rows_in}
-pub use Rattle.rolls.specs.State.{State, empty}
-pub use Rattle.row_model.specs.Changes.{AreFresh, after_change, after_changes, changed}
-pub use Rattle.row_model.specs.Rows.{AllRows, Cells, IsPart, IsRow, RowOf, SameRows, are_of, is_of, of_table}
-pub use Rattle.row_model.specs.declared.cell.Cell.{Cell as AnyCell}
-pub use Rattle.row_model.specs.declared.cell.Cell.TheVariants.{Bytes, Number, Text}
-pub use Rattle.row_model.specs.declared.row.Change.{Change}
-pub use Rattle.row_model.specs.declared.row.Change.TheVariants.{Add, Put, Remove}
-pub use Rattle.row_model.specs.declared.table.Table.{Table}
-pub use Rattle.row_model.specs.declared.table.Table.TheVariants.{Edition as EditionTable}
+pub use Rattle.office_model.specs.Fit.{IsFit}
+pub use Rattle.office_model.specs.Rows.{AreRowsOf, rows_in}
+pub use Rattle.office_model.specs.State.{State, empty}
+pub use Rattle.schema.specs.Changes.{AreFresh, after_change, after_changes, changed}
+pub use Rattle.schema.specs.Rows.{AllRows, Cells, IsPart, IsRow, RowOf, SameRows, are_of, is_of, of_table}
+pub use Rattle.schema.specs.declared.cell.Cell.{Cell as AnyCell}
+pub use Rattle.schema.specs.declared.cell.Cell.TheVariants.{Bytes, Number, Text}
+pub use Rattle.schema.specs.declared.row.Change.{Change}
+pub use Rattle.schema.specs.declared.row.Change.TheVariants.{Add, Put, Remove}
+pub use Rattle.schema.specs.declared.table.Table.{Table}
+pub use Rattle.schema.specs.declared.table.Table.TheVariants.{Edition as EditionTable}
 pub use Rattle.sqlite.specs.Effect.{Database, IsDatabase}
 pub use Rattle.sqlite.specs.Held.{Held, state}
 pub use Rattle.sqlite.specs.Order.{Row as Values, column}
@@ -26,11 +26,11 @@ pub use Rattle.std.specs.List.{AllByRecursion}
 pub use Rattle.std.specs.Prelude.{List, Option, drop, ℕ}
 pub use Rattle.store.specs.declared.fault.StoreFault.{StoreFault}
 pub use Rattle.store.specs.declared.fault.StoreFault.TheVariants.{Damaged, Memory, Storage}
-pub use Rattle.tables.specs.Causes.{IsCaused, IsStopped, IsUnread}
-pub use Rattle.tables.specs.Inert.{IsActedOn}
-pub use Rattle.tables.specs.Inside.Steps.{Runs}
-pub use Rattle.tables.specs.Keyed.{Stands}
-pub use Rattle.tables.specs.Layout.{IsListed, is_there}
-pub use Rattle.tables.specs.Outcomes.{Outcome, each_of, entry, followed_by, leaving, making, of_known}
-pub use Rattle.tables.specs.Steps.{HasSaved, IsKept, IsReading, MayRecoverTo, Steps}
-pub use Rattle.tables.specs.Table.{Lists, Place, made_here, rules_of, shape_of, table_at}
+pub use Rattle.sql_tables.specs.Causes.{IsCaused, IsStopped, IsUnread}
+pub use Rattle.sql_tables.specs.Inert.{IsActedOn}
+pub use Rattle.sql_tables.specs.Inside.Steps.{Runs}
+pub use Rattle.sql_tables.specs.Keyed.{Stands}
+pub use Rattle.sql_tables.specs.Layout.{IsListed, is_there}
+pub use Rattle.sql_tables.specs.Outcomes.{Outcome, each_of, entry, followed_by, leaving, making, of_known}
+pub use Rattle.sql_tables.specs.Steps.{HasSaved, IsKept, IsReading, MayRecoverTo, Steps}
+pub use Rattle.sql_tables.specs.Table.{Lists, Place, made_here, rules_of, shape_of, table_at}

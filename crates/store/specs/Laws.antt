@@ -1,6 +1,6 @@
 -- What the trees of a database say of the office that its tables stand for, and what tables that are made here take.
 use Rattle.std.specs.Prelude.{◌≡◌, ℕ, List, [], None}
-use Rattle.tables.specs.Ours.{HasRoom, IsOurs}
+use Rattle.sql_tables.specs.Ours.{HasRoom, IsOurs}
 use Rattle.store.specs.Common.{Database, IsDatabase, Schema, State, IsFit, Edition, Change, AllRows, AreFresh}
 use Rattle.store.specs.Available.{AreFew, AreReady}
 use Rattle.store.specs.Causes.{IsHinderedAmong, IsHinderedOpening}

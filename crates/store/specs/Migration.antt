@@ -2,14 +2,14 @@
 use Rattle.std.specs.Prelude.{◌≡◌, ℕ, Bool, false, ⊤, List, [], ◌∷◌, ◌++◌, map, filter, take}
 use Rattle.std.specs.List.{list_any}
 use Rattle.spa.specs.declared.aim.Aim.TheVariants.{Greedy}
-use Rattle.row_model.specs.declared.table.Table.{Table}
-use Rattle.row_model.specs.declared.table.Table.TheVariants.{Round, OldChoice, OldPlacement, RoundAim, Choice, Placement}
-use Rattle.row_model.specs.declared.row.Change.{Change}
-use Rattle.row_model.specs.declared.row.Change.TheVariants.{Add, Remove}
-use Rattle.row_model.specs.declared.row.Group.TheVariants.{Key}
-use Rattle.row_model.specs.Rows.{AllRows, SameRows, Cells, RowOf, key_in, of_table, same_table}
-use Rattle.rolls.specs.State.{State, aim_of}
-use Rattle.rolls.specs.Rows.{flag, rows_in}
+use Rattle.schema.specs.declared.table.Table.{Table}
+use Rattle.schema.specs.declared.table.Table.TheVariants.{Round, OldChoice, OldPlacement, RoundAim, Choice, Placement}
+use Rattle.schema.specs.declared.row.Change.{Change}
+use Rattle.schema.specs.declared.row.Change.TheVariants.{Add, Remove}
+use Rattle.schema.specs.declared.row.Group.TheVariants.{Key}
+use Rattle.schema.specs.Rows.{AllRows, SameRows, Cells, RowOf, key_in, of_table, same_table}
+use Rattle.office_model.specs.State.{State, aim_of}
+use Rattle.office_model.specs.Rows.{flag, rows_in}
 use Rattle.store.specs.declared.edition.Edition.{Edition}
 use Rattle.store.specs.declared.edition.Edition.TheVariants.{First, Second, Third}
 

@@ -1,7 +1,7 @@
 -- The rows of the tables as SQL has them.
 use Rattle.store.specs.Common.{List, drop, Has, Table}
-pub use Rattle.row_model.specs.Rows.{all_tables}
-pub use Rattle.tables.specs.Table.{value_of, values}
+pub use Rattle.schema.specs.Rows.{all_tables}
+pub use Rattle.sql_tables.specs.Table.{value_of, values}
 
 -- those that hold rows of an office, all but the edition; each comes after those that it refers to
 abbrev pub rolls : List Table

@@ -2,7 +2,7 @@
 use Rattle.std.specs.Prelude.{◌≡◌, ◌≢◌, IsTrue, Err, OnErr, Result, false, ⊤, List}
 use Rattle.store.specs.Common.{HasCleanDisk, Survives, Held, state, IsKept, AllByRecursion, Schema, AnyTable, Has, Table, Database, Seen, Change, Add, AllRows, after_changes, changed, Place, Lists, table_at, IsActedOn, HasSaved, Trees, Ghosts, StoreFault, Storage}
 use Rattle.store.specs.Rows.{IsAmong, IsRollTable, rolls}
-use Rattle.tables.specs.Writes.{IsInert}
+use Rattle.sql_tables.specs.Writes.{IsInert}
 use Rattle.store.specs.Tables.{LeavesAlone, TablesHold}
 use Rattle.store.specs.Available.{StaysOurs}
 

@@ -1,6 +1,6 @@
 //! The tables of the store.
 
-use tables::Table;
+use sql_tables::Table;
 
 /// Every table. Each is made after those that it refers to.
 pub const TABLES: [Table; 11] = [

@@ -5,9 +5,9 @@ ghost use Rattle.store.specs.Editions.{beyond, number_of, rolls_of};
 ghost use Rattle.store.specs.Tables.{HasNone, HasNoneOf};
 
 use crate::all_tables::TABLES;
+use sql_tables::Table;
+use sql_tables::layout::has_table;
 use sqlite_schema::schema::Schema;
-use tables::Table;
-use tables::layout::has_table;
 
 /// An edition of the tables.
 #[derive(Clone, Copy, PartialEq, Eq, Drop)]

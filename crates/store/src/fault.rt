@@ -3,12 +3,12 @@
 ghost use Rattle.std.specs.Prelude.{◌≡◌};
 ghost use Rattle.store.specs.declared.fault.StoreFault.TheVariants.{Memory};
 ghost use Rattle.store.specs.Inside.Faults.{of_rows, of_table};
-ghost use Rattle.tables.specs.Faults.{fault_of};
+ghost use Rattle.sql_tables.specs.Faults.{fault_of};
 
-use decoding::RowsFault;
+use office::from_rows::RowsFault;
+use sql_tables::fault::TableFault;
 use sqlite::Error;
 use std::alloc::{AllocError, AllocFailed};
-use tables::fault::TableFault;
 
 /// Why a call of the store was not carried out.
 #[derive(Clone, Copy, Drop, PartialEq, Eq)]

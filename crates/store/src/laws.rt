@@ -2,7 +2,7 @@
 
 ghost use Rattle.store.specs.Laws.{FindsOurs, OpensAgain, OpensOurs, TakesChanges, TakesTables};
 
-use change_laws::rows_law;
+use office::changes::rows_law;
 
 /// Tables that stand for an office are opened as that office and no other, from the trees of their database alone.
 pub fn opening_law()

@@ -1,7 +1,7 @@
 //! The office as tables.
 //!
 //! A `Store` is a database whose tables hold the rows of an office. It decides nothing of the office, and
-//! has no SQL: `office` judges rows, and `tables` has the statements.
+//! has no SQL: `office` judges rows, and `sql_tables` has the statements.
 //!
 //! Promised: `open` gives the office that the tables stand for, or calls them damaged where they stand for
 //! none; a database with none of the tables gets them in one transaction; `save` makes changes in

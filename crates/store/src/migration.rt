@@ -6,7 +6,7 @@ ghost use Rattle.store.specs.Inside.Reading as reading;
 ghost use Rattle.store.specs.Migration as says;
 
 use crate::edition::Edition;
-use rolls::{Cell, Change, Row, Table};
+use office_model::{Cell, Change, Row, Table};
 use std::alloc::{AllocError, Global};
 
 /// Returns the aims of the rounds among rows of the first edition.

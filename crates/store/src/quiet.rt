@@ -4,10 +4,10 @@ ghost use Rattle.std.specs.Prelude.{◌≡◌, ◌↔◌, IsTrue, false};
 ghost use Rattle.store.specs.Saving.{AreActedOn, AreActedOnAmong, AreInert, AreLeftAmong, IsActedOnAt, IsLeftAlone};
 
 use crate::edition::{LATEST, rolls_of};
+use sql_tables::Table;
+use sql_tables::inert::is_inert;
+use sql_tables::layout::tree_of;
 use sqlite_schema::schema::Schema;
-use tables::Table;
-use tables::inert::is_inert;
-use tables::layout::tree_of;
 
 /// Whether no foreign key acts on the rows of a table.
 fn is_left(schema: &Schema, table: Table) -> bool

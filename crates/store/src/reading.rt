@@ -13,14 +13,14 @@ use crate::fault::StoreFault;
 use crate::migration::{migrated_rows, migrating_changes};
 use crate::rows::rows_with;
 use office::Office;
-use rolls::{Change, Row};
+use office_model::{Change, Row};
+use sql_tables::Table;
+use sql_tables::layout::tree_of;
+use sql_tables::statements::read;
 use sqlite::{Alter, Connection, Row as Cells};
 use sqlite_schema::schema::Schema;
 use sqlite_value::value::ValueRef;
 use std::alloc::Global;
-use tables::Table;
-use tables::layout::tree_of;
-use tables::statements::read;
 
 /// Whether another table is listed in this tree.
 fn shares(schema: &Schema, other: Table, table: Table, tree: u32) -> bool

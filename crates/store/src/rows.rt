@@ -6,7 +6,7 @@ ghost use Rattle.store.specs.Rows.{value_of};
 ghost use Rattle.store.specs.Inside.Reading.{AreReadRows, IsNoRow, IsRowWith, IsTyped};
 
 use crate::fault::StoreFault;
-use row_model::{Bytes, Cell, Kind, Row, Table, Text};
+use schema::{Bytes, Cell, Kind, Row, Table, Text};
 use sqlite::Row as Columns;
 use sqlite_value::value::ValueRef;
 use std::alloc::Global;

@@ -17,7 +17,7 @@ use crate::quiet::{are_left, are_left_among};
 use crate::reading::office_in;
 use crate::transaction::{Task, transact};
 use office::Office;
-use rolls::Change;
+use office_model::Change;
 use sqlite::{Alter, Connection};
 use std::alloc::Global;
 use std::marker::Model;

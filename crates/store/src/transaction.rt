@@ -8,12 +8,12 @@ ghost use Rattle.store.specs.Saving.{IsSafe};
 use crate::all_tables::TABLES;
 use crate::edition::{Edition, LATEST, beyond, number_of};
 use crate::fault::StoreFault;
-use row_model::{Cell, Change};
+use schema::{Cell, Change};
+use sql_tables::Table;
+use sql_tables::fault::TableFault;
+use sql_tables::ready::need_open;
+use sql_tables::statements::{Entering, enter, leave, make};
 use sqlite::{Alter, Connection, Transaction};
-use tables::Table;
-use tables::fault::TableFault;
-use tables::ready::need_open;
-use tables::statements::{Entering, enter, leave, make};
 
 /// What a transaction is for.
 #[derive(Clone, Copy, Drop)]

@@ -2,9 +2,9 @@
 use Rattle.std.proofs.Common.{◌≡◌, ◌<◌, ◌≤◌, ◌+◌, ◌∙◌, ℕ, suc, List, [], ◌∷◌, ◌++◌, length, take, Option, Some, None, Result, Ok, Err, OnErr, refl, sym, ap, subst, arith, append-nil}
 use Rattle.std.specs.Io.KnownBytes.{Appends}
 use Rattle.std.proofs.lemmas.List.{append_assoc, length-append}
-use Rattle.wire.proofs.Known.{appends_compose}
-use Rattle.wire.specs.Run.{MessageText}
-use Rattle.world.specs.WorldState.{IsPeer, Peer}
+use Rattle.http_stream.proofs.Known.{appends_compose}
+use Rattle.http_stream.specs.Run.{MessageText}
+use Rattle.host.specs.WorldState.{IsPeer, Peer}
 use Rattle.web.specs.Connections.{AreAwaited, AreServed, Connects, Connect, SomeServed, Visit, connection_line, in_a_row, lines_after, next_row}
 use Rattle.web.specs.Serving.{end_text}
 use Rattle.web.specs.declared.TheConstants.{MAX_UNACCEPTED}

@@ -2,27 +2,27 @@
 use Rattle.std.proofs.Common.{◌≡◌, ◌⊎◌, inl, inr, ℕ, List, Option, None, IfSome, Result, Ok, Err, refl, sym, subst, ap}
 use Rattle.std.specs.Option.{unwrap_or}
 use Rattle.sqlite_trees.specs.declared.store.Store.{Ghosts}
-use Rattle.rolls.specs.declared.refusal.Refusal.{Refusal}
-use Rattle.rolls.specs.declared.refusal.Refusal.TheVariants.{Memory}
-use Rattle.rolls.specs.declared.request.Plain.{Plain}
-use Rattle.rolls.specs.declared.request.Plain.TheVariants.{GetSupervisor, GetProject, GetStudent, GetRound}
-use Rattle.rolls.specs.declared.request.Reply.{Reply}
-use Rattle.rolls.specs.declared.request.Reply.TheVariants as reply
-use Rattle.rolls.specs.declared.request.Request.{Request}
-use Rattle.rolls.specs.declared.request.Request.TheVariants as request
-use Rattle.rolls.specs.Refusing.{refusal_of}
-use Rattle.rolls.specs.Run.{Makes, Step, refusal}
-use Rattle.outside.specs.Layers.{layers}
+use Rattle.office_model.specs.declared.refusal.Refusal.{Refusal}
+use Rattle.office_model.specs.declared.refusal.Refusal.TheVariants.{Memory}
+use Rattle.office_model.specs.declared.request.Plain.{Plain}
+use Rattle.office_model.specs.declared.request.Plain.TheVariants.{GetSupervisor, GetProject, GetStudent, GetRound}
+use Rattle.office_model.specs.declared.request.Reply.{Reply}
+use Rattle.office_model.specs.declared.request.Reply.TheVariants as reply
+use Rattle.office_model.specs.declared.request.Request.{Request}
+use Rattle.office_model.specs.declared.request.Request.TheVariants as request
+use Rattle.office_model.specs.Refusing.{refusal_of}
+use Rattle.office_model.specs.Run.{Makes, Step, refusal}
+use Rattle.desk.specs.layers.Layers.{layers}
 use Rattle.desk.specs.Keeping.{Keeps, repeated_rows}
 use Rattle.desk.specs.DeskState.{DeskState}
 use Rattle.desk.specs.Sessions.{AnswersAtOnce, GoesOn}
 use Rattle.desk.specs.Saved.{IsSaved}
 use Rattle.sqlite.specs.Held.{state}
 use Rattle.sqlite.specs.State.{State as Seen, IsLive}
-use Rattle.rolls.specs.Fit.{IsFit}
-use Rattle.rolls.specs.State.{State}
-use Rattle.wire.specs.Run.{MessageText}
-use Rattle.api.specs.Texts.{IsRead, refusal_text, text_of}
+use Rattle.office_model.specs.Fit.{IsFit}
+use Rattle.office_model.specs.State.{State}
+use Rattle.http_stream.specs.Run.{MessageText}
+use Rattle.http_api.specs.Texts.{IsRead, refusal_text, text_of}
 use Rattle.web.specs.Serving.{AnswersFrom, AnswersMessage, AnswersOffice, AnswersRead, AtDesk, Gets, GetsAt, at_desk}
 
 -- an answer that is the one of a change has no text of the office in it

@@ -1,11 +1,11 @@
 -- A run at a desk is a run of what is seen of it, and what a step gives back a run does.
 use Rattle.std.proofs.Common.{ℕ, List, [], ◌∷◌, Option, Result, Ok, Err, ap, sym, subst}
-use Rattle.wire.specs.Messages.{Message}
-use Rattle.wire.specs.Run.{MessageText, said, RunsMessages}
-use Rattle.wire.specs.Served.{IsServed, ServedTo, BrokeOff}
-use Rattle.wire.specs.declared.outcome.End.{End}
-use Rattle.wire.specs.declared.outcome.Served.{Served}
-use Rattle.wire.specs.declared.outcome.StreamFault.{StreamFault}
+use Rattle.http_stream.specs.Messages.{Message}
+use Rattle.http_stream.specs.Run.{MessageText, said, RunsMessages}
+use Rattle.http_stream.specs.Served.{IsServed, ServedTo, BrokeOff}
+use Rattle.http_stream.specs.declared.outcome.End.{End}
+use Rattle.http_stream.specs.declared.outcome.Served.{Served}
+use Rattle.http_stream.specs.declared.outcome.StreamFault.{StreamFault}
 
 -- a step that does as much as is seen
 abbrev pub Shows : {D S : Type 0} → (D → S) → (S → MessageText → List ℕ → S → Type 0) → (D → MessageText → List ℕ → D → Type 0) → Type 0

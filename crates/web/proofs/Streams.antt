@@ -4,22 +4,22 @@ use Rattle.std.specs.List.{AllByRecursion}
 use Rattle.std.specs.Prelude.{⊤}
 use Rattle.sqlite.specs.Held.{state}
 use Rattle.sqlite_trees.specs.declared.store.Store.{Ghosts}
-use Rattle.rolls.specs.declared.refusal.Refusal.{Refusal}
-use Rattle.rolls.specs.declared.request.Reply.{Reply}
-use Rattle.rolls.specs.declared.request.Request.{Request}
-use Rattle.rolls.specs.State.{State}
+use Rattle.office_model.specs.declared.refusal.Refusal.{Refusal}
+use Rattle.office_model.specs.declared.request.Reply.{Reply}
+use Rattle.office_model.specs.declared.request.Request.{Request}
+use Rattle.office_model.specs.State.{State}
 use Rattle.store.proofs.Available.{room_for}
 use Rattle.desk.specs.DeskState.{DeskState}
 use Rattle.desk.specs.Keeping.{CarriesOut}
 use Rattle.desk.specs.Lasting.{AskLasts, IsReady}
 use Rattle.desk.specs.Laws.{AnswersStay, AskReaches, IsAtRest, IsOpenedAfter, IsReached, OneMakes as OneOfMakes}
-use Rattle.wire.specs.Messages.{Message}
-use Rattle.wire.specs.Run.{RunsMessages, said}
-use Rattle.api.specs.Requests.{IsReadAs}
-use Rattle.wire.specs.Served.{IsServed}
-use Rattle.wire.specs.declared.outcome.Served.{Served}
-use Rattle.wire.specs.declared.outcome.StreamFault.{StreamFault}
-use Rattle.world.specs.WorldState.{Peer}
+use Rattle.http_stream.specs.Messages.{Message}
+use Rattle.http_stream.specs.Run.{RunsMessages, said}
+use Rattle.http_api.specs.Requests.{IsReadAs}
+use Rattle.http_stream.specs.Served.{IsServed}
+use Rattle.http_stream.specs.declared.outcome.Served.{Served}
+use Rattle.http_stream.specs.declared.outcome.StreamFault.{StreamFault}
+use Rattle.host.specs.WorldState.{Peer}
 use Rattle.web.specs.Connections.{Connect, Visit}
 use Rattle.web.specs.Laws.{AnsweredStay, GetsAvailable, OneAsks, StreamLasts}
 use Rattle.web.specs.Serving.{AnswersBy, AnswersFrom, AnswersRead, GetsAt, end_text}

@@ -1,14 +1,14 @@
 -- What became of the connections of a port, and the line of each.
 use Rattle.std.specs.Prelude.{◌≡◌, ◌⊎◌, ℕ, suc, ◌+◌, ◌<◌, List, [], ◌∷◌, ◌++◌, length, take, codes, decimal, ⊤, Option, Some, None, Result, Ok, Err}
 use Rattle.std.specs.Io.KnownBytes.{Appends}
-use Rattle.wire.specs.declared.outcome.End.{End}
-use Rattle.wire.specs.declared.outcome.End.TheVariants.{Closed, Unfinished, BadHead, TooLarge, Hundred}
-use Rattle.wire.specs.declared.outcome.Served.{Served}
-use Rattle.wire.specs.declared.outcome.StreamFault.{StreamFault}
-use Rattle.wire.specs.declared.outcome.StreamFault.TheVariants.{Memory, Read, Write}
-use Rattle.wire.specs.Run.{MessageText, read_failed, write_failed}
-use Rattle.wire.specs.Served.{IsServed}
-use Rattle.world.specs.WorldState.{Ends, Peer}
+use Rattle.http_stream.specs.declared.outcome.End.{End}
+use Rattle.http_stream.specs.declared.outcome.End.TheVariants.{Closed, Unfinished, BadHead, TooLarge, Hundred}
+use Rattle.http_stream.specs.declared.outcome.Served.{Served}
+use Rattle.http_stream.specs.declared.outcome.StreamFault.{StreamFault}
+use Rattle.http_stream.specs.declared.outcome.StreamFault.TheVariants.{Memory, Read, Write}
+use Rattle.http_stream.specs.Run.{MessageText, read_failed, write_failed}
+use Rattle.http_stream.specs.Served.{IsServed}
+use Rattle.host.specs.WorldState.{Ends, Peer}
 use Rattle.web.specs.Serving.{end_text}
 use Rattle.web.specs.declared.TheConstants.{MAX_UNACCEPTED}
 

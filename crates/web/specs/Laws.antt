@@ -1,17 +1,17 @@
 -- What is left after the messages of a stream: what a crash then leaves of the office, and that it stays available.
 use Rattle.std.specs.Prelude.{◌≡◌, ◌⊎◌, ◌+◌, ◌≤◌, ◌^◌, ℕ, List, [], ◌∷◌, length, Result, Ok}
 use Rattle.sqlite_trees.specs.declared.store.Store.{Ghosts}
-use Rattle.rolls.specs.declared.refusal.Refusal.{Refusal}
-use Rattle.rolls.specs.declared.request.Reply.{Reply}
-use Rattle.rolls.specs.declared.request.Request.{Request}
-use Rattle.rolls.specs.State.{State}
+use Rattle.office_model.specs.declared.refusal.Refusal.{Refusal}
+use Rattle.office_model.specs.declared.request.Reply.{Reply}
+use Rattle.office_model.specs.declared.request.Request.{Request}
+use Rattle.office_model.specs.State.{State}
 use Rattle.desk.specs.DeskState.{DeskState}
 use Rattle.desk.specs.Keeping.{CarriesOut}
 use Rattle.desk.specs.Lasting.{IsAvailable, IsReady}
 use Rattle.desk.specs.Laws.{IsAtRest, IsOpenedAfter}
-use Rattle.wire.specs.Messages.{Message}
-use Rattle.wire.specs.Run.{MessageText, RunsMessages, said}
-use Rattle.api.specs.Requests.{IsReadAs}
+use Rattle.http_stream.specs.Messages.{Message}
+use Rattle.http_stream.specs.Run.{MessageText, RunsMessages, said}
+use Rattle.http_api.specs.Requests.{IsReadAs}
 use Rattle.web.specs.Serving.{AnswersBy, AnswersFrom, GetsAt}
 
 -- one of these messages asks this

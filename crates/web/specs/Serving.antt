@@ -3,22 +3,22 @@ use Rattle.std.specs.Prelude.{◌≡◌, ℕ, List, Option, None, Result, Ok, Er
 use Rattle.sqlite.specs.Held.{state}
 use Rattle.sqlite.specs.State.{HasCleanDisk}
 use Rattle.sqlite_trees.specs.declared.store.Store.{Ghosts}
-use Rattle.rolls.specs.declared.refusal.Refusal.{Refusal}
-use Rattle.rolls.specs.declared.refusal.Refusal.TheVariants as no
-use Rattle.rolls.specs.declared.request.Reply.{Reply}
-use Rattle.rolls.specs.State.{State}
-use Rattle.rolls.specs.declared.request.Request.{Request}
-use Rattle.rolls.specs.Run.{Step}
+use Rattle.office_model.specs.declared.refusal.Refusal.{Refusal}
+use Rattle.office_model.specs.declared.refusal.Refusal.TheVariants as no
+use Rattle.office_model.specs.declared.request.Reply.{Reply}
+use Rattle.office_model.specs.State.{State}
+use Rattle.office_model.specs.declared.request.Request.{Request}
+use Rattle.office_model.specs.Run.{Step}
 use Rattle.solver.specs.SessionState.{SessionState}
-use Rattle.outside.specs.Layers.{layers}
+use Rattle.desk.specs.layers.Layers.{layers}
 use Rattle.desk.specs.DeskState.{DeskState}
 use Rattle.desk.specs.Laws.{IsAsked}
 use Rattle.desk.specs.Sessions.{AnswersAtOnce, GoesOn}
-use Rattle.wire.specs.declared.outcome.End.{End}
-use Rattle.wire.specs.declared.outcome.End.TheVariants.{Closed, Unfinished, BadHead, TooLarge, Hundred}
-use Rattle.wire.specs.Run.{MessageText}
-use Rattle.api.specs.Requests.{IsReadAs}
-use Rattle.api.specs.Texts.{refusal_text, text_of}
+use Rattle.http_stream.specs.declared.outcome.End.{End}
+use Rattle.http_stream.specs.declared.outcome.End.TheVariants.{Closed, Unfinished, BadHead, TooLarge, Hundred}
+use Rattle.http_stream.specs.Run.{MessageText}
+use Rattle.http_api.specs.Requests.{IsReadAs}
+use Rattle.http_api.specs.Texts.{refusal_text, text_of}
 
 -- what is at a desk: an office, and the session that is cached, if any
 pub record AtDesk : Type 0 where

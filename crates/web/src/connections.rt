@@ -1,22 +1,22 @@
 //! Connections of a port, served at a desk one after another.
 ghost use Rattle.std.specs.Io.KnownBytes.{Appends};
 ghost use Rattle.std.specs.Prelude.{◌≡◌, ℕ, ◌+◌, ◌≤◌, ◌<◌, ◌-◌, ◌^◌, ◌++◌, length, take, IfOk, OnOk, OnErr};
-ghost use Rattle.wire.specs.declared.TheConstants.{MAX_SHORT_BODY};
+ghost use Rattle.http_stream.specs.declared.TheConstants.{MAX_SHORT_BODY};
 ghost use Rattle.arrayvec.specs.ArrayVec.{array_vec_len};
-ghost use Rattle.world.specs.WorldState.{IsPeer};
+ghost use Rattle.host.specs.WorldState.{IsPeer};
 ghost use Rattle.web.specs.Connections.{Connects, AllServed, SomeServed, end_word, told_visit, connection_line, next_row};
 ghost use Rattle.web.specs.Serving.{AnswersFrom};
 ghost use Rattle.web.specs.declared.TheConstants.{MAX_UNACCEPTED};
 
 use crate::MAX_UNACCEPTED;
 use crate::service::serve_stream;
-use api::{push, push_labelled};
 use arrayvec::ArrayVec;
 use desk::Desk;
+use host::Door;
+use http_api::{push, push_labelled};
+use http_stream::{End, Served, ShortText, Sink, StreamFault, write_all};
 use sqlite::Alter;
 use std::alloc::Global;
-use wire::{End, Served, ShortText, Sink, StreamFault, write_all};
-use world::Door;
 
 /// What became of one who connects, or nothing of one who could not be accepted.
 type Visit = Option<Result<Served, StreamFault>>;

@@ -1,6 +1,6 @@
 //! The office over HTTP: a stream served at the desk that keeps its tables.
 //!
-//! `wire` finds the messages of a stream and writes their answers; `api` says what a message asks and how
+//! `http_stream` finds the messages of a stream and writes their answers; `http_api` says what a message asks and how
 //! an answer is written. Here each message is asked of the desk.
 //!
 //! Promised: `serve_stream` writes the texts of the answers of a run of the office over the requests of the
@@ -12,11 +12,11 @@ mod connections;
 mod laws;
 mod service;
 
-pub use api::{push, push_labelled, push_number};
 pub use connections::{OutFault, serve_on};
+pub use http_api::{push, push_labelled, push_number};
+pub use http_stream::{End, Served, ShortText, Sink, Source, StreamFault, Watched, write_all};
 pub use laws::stream_law;
 pub use service::serve_stream;
-pub use wire::{End, Served, ShortText, Sink, Source, StreamFault, Watched, write_all};
 
 /// How many in a row that cannot be accepted end the service of a port: the system has no descriptor or memory left for them.
 pub const MAX_UNACCEPTED: u32 = 10;

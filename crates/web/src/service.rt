@@ -1,15 +1,15 @@
 //! The service of a stream at a desk.
 ghost use Rattle.std.specs.Prelude.{◌≡◌, ◌-◌, ◌^◌, ◌+◌, ◌<◌, false};
-ghost use Rattle.wire.specs.Run.{read_failed, write_failed};
-ghost use Rattle.wire.specs.Served.{IsServed};
+ghost use Rattle.http_stream.specs.Run.{read_failed, write_failed};
+ghost use Rattle.http_stream.specs.Served.{IsServed};
 ghost use Rattle.web.specs.Serving.{AnswersFrom, AnswersMessage, AnswersOffice, at_desk, refusal_at, end_text};
 
-use api::{Routes, answer_of, refusal_answer};
 use desk::Desk;
-use rolls::Refusal;
+use http_api::{Routes, answer_of, refusal_answer};
+use http_stream::{Answer, End, Handler, Served, Sink, Source, StreamFault, serve_messages};
+use office_model::Refusal;
 use sqlite::Alter;
 use std::alloc::Global;
-use wire::{Answer, End, Handler, Served, Sink, Source, StreamFault, serve_messages};
 
 /// Answers the messages of a stream at a desk.
 #[derive(Drop)]

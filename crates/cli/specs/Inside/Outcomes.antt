@@ -2,8 +2,8 @@
 use Rattle.std.specs.Prelude.{◌≡◌, ◌⊎◌, ℕ, ◌+◌, List, Option}
 use Rattle.std.specs.Io.KnownBytes.{Appends}
 use Rattle.web.specs.Connections.{SomeServed}
-use Rattle.wire.specs.Run.{MessageText}
-use Rattle.world.specs.WorldState.{Peer}
+use Rattle.http_stream.specs.Run.{MessageText}
+use Rattle.host.specs.WorldState.{Peer}
 use Rattle.cli.specs.Outcomes.{Outcome, listening, IsServed}
 use Rattle.cli.specs.Outputs.{IsCut}
 use Rattle.cli.specs.declared.status.Status.{Status}

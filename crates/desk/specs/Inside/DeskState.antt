@@ -2,7 +2,7 @@
 use Rattle.std.specs.Prelude.{Option, refl}
 use Rattle.std.specs.Coded.{Coded, code_by, coded×, coded_option}
 use Rattle.sqlite.specs.Held.{Held, held_code}
-use Rattle.rolls.specs.State.{State}
+use Rattle.office_model.specs.State.{State}
 use Rattle.office.specs.contracts.office.Office.{the_row as office_row}
 use Rattle.solver.specs.SessionState.{SessionState}
 use Rattle.solver.specs.contracts.session.Session.{the_row as session_row}

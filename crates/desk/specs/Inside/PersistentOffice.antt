@@ -2,7 +2,7 @@
 use Rattle.std.specs.Prelude.{refl}
 use Rattle.std.specs.Coded.{Coded, code_by, coded×}
 use Rattle.sqlite.specs.Held.{Held, held_code}
-use Rattle.rolls.specs.State.{State}
+use Rattle.office_model.specs.State.{State}
 use Rattle.office.specs.contracts.office.Office.{the_row as office_row}
 use Rattle.desk.specs.PersistentOffice.{PersistentState}
 

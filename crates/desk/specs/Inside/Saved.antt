@@ -1,12 +1,12 @@
 -- For proofs alone. How changes that were saved or refused leave the tables.
 use Rattle.std.specs.Prelude.{IsTrue, IsErr, List, OnOk, Result}
 use Rattle.sqlite.specs.State.{State as Seen, HasCleanDisk, Survives}
-use Rattle.tables.specs.Causes.{IsCaused}
-use Rattle.tables.specs.Steps.{MayRecoverTo}
-use Rattle.row_model.specs.declared.row.Change.{Change}
-use Rattle.rolls.specs.declared.refusal.Refusal.{Refusal}
-use Rattle.rolls.specs.declared.refusal.Refusal.TheVariants.{Storage}
-use Rattle.rolls.specs.declared.request.Reply.{Reply}
+use Rattle.sql_tables.specs.Causes.{IsCaused}
+use Rattle.sql_tables.specs.Steps.{MayRecoverTo}
+use Rattle.schema.specs.declared.row.Change.{Change}
+use Rattle.office_model.specs.declared.refusal.Refusal.{Refusal}
+use Rattle.office_model.specs.declared.refusal.Refusal.TheVariants.{Storage}
+use Rattle.office_model.specs.declared.request.Reply.{Reply}
 use Rattle.store.specs.Available.{StaysOurs}
 use Rattle.store.specs.Causes.{IsHinderedAmong}
 use Rattle.store.specs.Saving.{AreActedOn, Saves}

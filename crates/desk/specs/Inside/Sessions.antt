@@ -1,8 +1,8 @@
 -- For proofs alone. What becomes of the session that a desk keeps.
 use Rattle.std.specs.Prelude.{⊤, Option, IfSome}
-use Rattle.rolls.specs.State.{State}
+use Rattle.office_model.specs.State.{State}
 use Rattle.solver.specs.SessionState.{SessionState}
-use Rattle.outside.specs.SessionRounds.{MayJoin}
+use Rattle.desk.specs.layers.SessionRounds.{MayJoin}
 use Rattle.desk.specs.declared.sessions.SessionEffect.{SessionEffect}
 use Rattle.desk.specs.declared.sessions.SessionEffect.TheVariants.{Keep, Start, Extend, End}
 use Rattle.desk.specs.Sessions.{MirrorsRound}

@@ -1,8 +1,8 @@
 -- Plain requests that were made one after another.
 use Rattle.std.specs.Prelude.{◌≡◌, List, None}
 use Rattle.office.specs.Common.{State, Transforms, rows_refusal, after_rows, changes_of_rows}
-use Rattle.rolls.specs.declared.request.Plain.{Plain}
-use Rattle.row_model.specs.declared.row.Change.{Change}
+use Rattle.office_model.specs.declared.request.Plain.{Plain}
+use Rattle.schema.specs.declared.row.Change.{Change}
 
 -- none of them was refused, and these are their changes, which transform the rows
 pub record AreMade (rows : List Plain) (old new : State) (changes : List Change) : Type 0 where

@@ -4,15 +4,15 @@ ghost use Rattle.std.specs.Prelude.{◌≡◌, IfOk, OnErr, IsTrue};
 ghost use Rattle.office.specs.Common.{round_is_open, IsClosed};
 ghost use Rattle.spa.specs.Named.{instance_of};
 ghost use Rattle.spa.specs.Coded.{taken};
-ghost use Rattle.rolls.specs.Instances.{instance_left, instance_of_round, round_instance};
-ghost use Rattle.rolls.specs.Counted.{count_in, count_with};
-ghost use Rattle.closing.specs.Places.{ArePlacesOf};
-ghost use Rattle.closing.specs.Changes as says;
+ghost use Rattle.office_model.specs.Instances.{instance_left, instance_of_round, round_instance};
+ghost use Rattle.office_model.specs.Counted.{count_in, count_with};
+ghost use Rattle.office.specs.closing.Places.{ArePlacesOf};
+ghost use Rattle.office.specs.closing.Changes as says;
 
 use super::Office;
 use super::placed::ranked;
-use closing::{close_changes, placements_after, placements_of, places_law, round_instance};
-use rolls::{Done, Reply};
+use crate::closing::{close_changes, placements_after, placements_of, places_law, round_instance};
+use office_model::{Done, Reply};
 use spa::{Instance, Matching};
 use std::alloc::AllocError;
 

@@ -2,12 +2,12 @@
 
 ghost use Rattle.std.specs.Prelude.{◌≡◌, ◌≤◌, ◌⊎◌, ◌&&◌, not, nat_le, false, Ok, Some, None, IfOk, IfErr, OnOk, length};
 ghost use Rattle.office.specs.Common.{has_import, kept_rows, ImportFits, first, import_tests, is_other_import, rows_refusal, with_import, Imports, import_changes};
-ghost use Rattle.rolls.specs.declared.TheConstants.{MAX_IMPORT_BYTES, MAX_IMPORTS};
+ghost use Rattle.office_model.specs.declared.TheConstants.{MAX_IMPORT_BYTES, MAX_IMPORTS};
 ghost use Rattle.office.specs.Inside.Importing.{AreMade};
 
 use super::Office;
 use crate::making::code_of;
-use rolls::{
+use office_model::{
     Bytes, Change, Done, Import, ImportKind, MAX_IMPORT_BYTES, MAX_IMPORTS, Plain, Refusal, Reply,
     Text,
 };

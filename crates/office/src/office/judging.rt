@@ -3,10 +3,10 @@
 ghost use Rattle.std.specs.Prelude.{◌≡◌, [], Some, None};
 ghost use Rattle.office.specs.Common.{list_any, first, plain_refusal, is_moved, choice_tests, open_tests, opening_tests};
 ghost use Rattle.std.specs.Str.{bytes_eq};
-ghost use Rattle.rolls.specs.declared.request.Plain.TheVariants as ask;
+ghost use Rattle.office_model.specs.declared.request.Plain.TheVariants as ask;
 
 use super::Office;
-use rolls::{MAX_ROUNDS, Refusal, Text};
+use office_model::{MAX_ROUNDS, Refusal, Text};
 use spa::{
     MAX_PROJECTS, MAX_QUOTA, MAX_STUDENTS, MAX_SUPERVISORS, RANKS, is_code_text, is_label_text,
 };

@@ -2,12 +2,12 @@
 
 ghost use Rattle.std.specs.Prelude.{◌≡◌, None, IfOk, OnErr, IsTrue};
 ghost use Rattle.office.specs.Common.{AllByRecursion, has_project, plain_refusal, IsDone, changes_of};
-ghost use Rattle.rolls.specs.declared.request.Plain.TheVariants as ask;
+ghost use Rattle.office_model.specs.declared.request.Plain.TheVariants as ask;
 
 use super::Office;
+use crate::changes::list_changes;
 use crate::making::one_change;
-use change_laws::list_changes;
-use rolls::{Change, Choices, Done, Listed, Reply, Text, Texts, list_part};
+use office_model::{Change, Choices, Done, Listed, Reply, Text, Texts, list_part};
 use spa::Code;
 use std::alloc::AllocError;
 

@@ -5,7 +5,8 @@ ghost use Rattle.office.specs.Common.{placed_in_project, placed_with_supervisor,
 ghost use Rattle.spa.specs.declared.TheConstants.{MAX_STUDENTS};
 
 use super::Office;
-use rolls::Placement;
+use crate::closing;
+use office_model::Placement;
 use spa::RANKS;
 
 impl Office {

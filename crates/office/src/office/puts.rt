@@ -2,11 +2,11 @@
 
 ghost use Rattle.std.specs.Prelude.{◌≡◌, None, IfOk, OnErr};
 ghost use Rattle.office.specs.Common.{plain_refusal, IsDone, changes_of};
-ghost use Rattle.rolls.specs.declared.request.Plain.TheVariants as ask;
+ghost use Rattle.office_model.specs.declared.request.Plain.TheVariants as ask;
 
 use super::Office;
 use crate::making::{new_project, new_student, new_supervisor};
-use rolls::{Done, Reply, Text};
+use office_model::{Done, Reply, Text};
 use std::alloc::AllocError;
 
 impl Office {

@@ -2,11 +2,11 @@
 
 ghost use Rattle.std.specs.Prelude.{◌≡◌, IfOk, Some, None};
 ghost use Rattle.office.specs.Common.{open_choices, placement_of, plain_refusal, plain_reply};
-ghost use Rattle.rolls.specs.declared.request.Plain.TheVariants as ask;
+ghost use Rattle.office_model.specs.declared.request.Plain.TheVariants as ask;
 
 use super::Office;
 use super::placed::{placed_by, ranked};
-use rolls::{Choices, Placement, Reply};
+use office_model::{Choices, Placement, Reply};
 use std::alloc::AllocError;
 
 impl Office {

@@ -2,12 +2,12 @@
 
 ghost use Rattle.std.specs.Prelude.{◌≡◌, true, is_some, option_copied, Some, None, IfOk, OnErr};
 ghost use Rattle.office.specs.Common.{aim_key, aim_of, last_round, list_of, lists_of, round_is_open, round_of, plain_refusal, IsDone, changes_of};
-ghost use Rattle.rolls.specs.Roll.{put};
-ghost use Rattle.rolls.specs.declared.request.Plain.TheVariants as ask;
+ghost use Rattle.office_model.specs.Roll.{put};
+ghost use Rattle.office_model.specs.declared.request.Plain.TheVariants as ask;
 
 use super::Office;
-use change_laws::{kept_placements, opening_changes, reopening_changes};
-use rolls::{Done, Entries, Entry, Listed, Reply, Round, RoundAim};
+use crate::changes::{kept_placements, opening_changes, reopening_changes};
+use office_model::{Done, Entries, Entry, Listed, Reply, Round, RoundAim};
 use spa::Aim;
 use std::alloc::AllocError;
 

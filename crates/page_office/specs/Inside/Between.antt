@@ -9,13 +9,13 @@ use Rattle.sqlite.specs.State.{HasCleanDisk}
 use Rattle.sqlite.specs.Held.{Held, state}
 use Rattle.sqlite.specs.Closing.{IsCopied}
 use Rattle.sqlite.specs.Files.{Finds, IsOpened, file_state, over_files}
-use Rattle.rolls.specs.State.{State}
-use Rattle.rolls.specs.Fit.{IsFit}
+use Rattle.office_model.specs.State.{State}
+use Rattle.office_model.specs.Fit.{IsFit}
 use Rattle.store.specs.Reading.{IsDamaged}
 use Rattle.store.specs.Tables.{HasNone, Opens}
 use Rattle.desk.specs.Keeping.{Keeps}
-use Rattle.wire.specs.declared.outcome.End.{End}
-use Rattle.wire.specs.Served.{Serves}
+use Rattle.http_stream.specs.declared.outcome.End.{End}
+use Rattle.http_stream.specs.Served.{Serves}
 use Rattle.web.specs.Serving.{AnswersMessage, AtDesk, end_text, just_opened}
 
 module _ {S : Type 0} (ghosts : Ghosts S) where

@@ -2,11 +2,11 @@
 use Rattle.std.specs.Prelude.{ℕ, Bool, List, Some, filter, flat_map}
 use Rattle.std.specs.Str.{bytes_eq}
 use Rattle.spa.specs.Counted.{Counted}
-use Rattle.rolls.specs.declared.entries.Supervisor.{Supervisor}
-use Rattle.rolls.specs.declared.entries.Project.{Project}
-use Rattle.rolls.specs.declared.entries.Student.{Student}
-use Rattle.rolls.specs.Counted.{AreCounted}
-use Rattle.rolls.specs.State.{State}
+use Rattle.office_model.specs.declared.entries.Supervisor.{Supervisor}
+use Rattle.office_model.specs.declared.entries.Project.{Project}
+use Rattle.office_model.specs.declared.entries.Student.{Student}
+use Rattle.office_model.specs.Counted.{AreCounted}
+use Rattle.office_model.specs.State.{State}
 use Rattle.reports.specs.declared.places_report.Places.{Places}
 use Rattle.reports.specs.declared.places_report.Places.TheVariants as places
 use Rattle.reports.specs.declared.students_report.Whom.{Whom}

@@ -1,9 +1,9 @@
 -- Why a call of the store fails, by why a call below it does.
 use Rattle.store.specs.Common.{StoreFault, Damaged, Memory, Storage}
-use Rattle.tables.specs.declared.fault.TableFault.{TableFault}
-use Rattle.tables.specs.declared.fault.TableFault.TheVariants as table
-use Rattle.decoding.specs.declared.fault.RowsFault.{RowsFault}
-use Rattle.decoding.specs.declared.fault.RowsFault.TheVariants as rows
+use Rattle.sql_tables.specs.declared.fault.TableFault.{TableFault}
+use Rattle.sql_tables.specs.declared.fault.TableFault.TheVariants as table
+use Rattle.office.specs.declared.from_rows.fault.RowsFault.{RowsFault}
+use Rattle.office.specs.declared.from_rows.fault.RowsFault.TheVariants as rows
 
 -- a statement's fault
 abbrev pub of_table : TableFault → StoreFault

@@ -1,8 +1,8 @@
 -- For proofs alone. What the rows that are read from the tables say.
 use Rattle.std.specs.Prelude.{◌≡◌, ◌≢◌, ◌⊎◌, ◌<◌, ◌^◌, [], take, ⊤, ℕ, true, IsTrue, IsUtf8, List, ◌++◌, map, drop, nat_lt}
 use Rattle.store.specs.Common.{AllByRecursion, Values, Database, AnyCell as Cell, Text, Number, Bytes, Table, Change, Cells, IsRow, RowOf, SameRows, are_of, of_table, after_changes, IsFit, rows_in, State, Edition as AnEdition, Allows, AreRowsIn, rows_in_edition, migrating_changes, Schema, Seen, IsUnchanged, Has, Place, Lists, table_at, Stands, ℕ, Option, IsUnread, Edition}
-use Rattle.row_model.specs.declared.cell.Kind.{Kind}
-use Rattle.row_model.specs.declared.table.Table.TheVariants.{RoundAim}
+use Rattle.schema.specs.declared.cell.Kind.{Kind}
+use Rattle.schema.specs.declared.table.Table.TheVariants.{RoundAim}
 use Rattle.store.specs.declared.edition.Edition.TheVariants.{First, Second}
 use Rattle.store.specs.Migration.{aims_of, renamed_row}
 use Rattle.store.specs.Tables.{HoldIn, StandsIn, HasNone, HasNoneOf}

@@ -1,6 +1,6 @@
 use Rattle.std.proofs.Common.{ℕ, List, refl, string_bytes, subst}
-use Rattle.rolls.specs.declared.request.Plain.TheVariants as plain
-use Rattle.rolls.specs.declared.request.Request.TheVariants as request
+use Rattle.office_model.specs.declared.request.Plain.TheVariants as plain
+use Rattle.office_model.specs.declared.request.Request.TheVariants as request
 use Rattle.cli.specs.declared.tasks.Task.TheVariants as task
 use Rattle.cli.proofs.Common.{IsImportOfFile, ComesBy}
 use Rattle.cli.specs.declared.rounds.RoundTask.TheVariants as way

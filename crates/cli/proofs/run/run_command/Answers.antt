@@ -1,6 +1,6 @@
 use Rattle.std.proofs.Common.{ap, subst, rules, refl, Ok, Err, map, string_bytes, ◌∙◌}
 use Rattle.cli.proofs.Common.{IsAnswer, LineFault, prints, prints_err, Usage}
-use Rattle.commands.specs.declared.line.LineFault.TheVariants.{Memory, Help, Version, Fault}
+use Rattle.args.specs.declared.line.LineFault.TheVariants.{Memory, Help, Version, Fault}
 use Rattle.cli.proofs.Writers.{prints_more}
 use Rattle.cli.proofs.run.run_command.Goals as goal
 

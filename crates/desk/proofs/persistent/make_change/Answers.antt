@@ -1,6 +1,6 @@
 use Rattle.std.proofs.Common.{◌≡◌, None, IfErr, sym, subst}
 use Rattle.desk.proofs.Common.{Request, refusal_of, MayRefuse, layers}
-use Rattle.rolls.specs.declared.request.Request.TheVariants as request
+use Rattle.office_model.specs.declared.request.Request.TheVariants as request
 use Rattle.desk.proofs.Refusals.{may_refuse}
 use Rattle.desk.proofs.NoStorage.{import_named, unstored}
 use Rattle.desk.proofs.persistent.make_change.Goals as goal

@@ -2,7 +2,7 @@ use Rattle.std.proofs.Common.{Option, not, refl, rules, sym, subst, ap, ◌∙�
 use Rattle.sqlite.specs.Held.{Held, state}
 use Rattle.desk.specs.Keeping.{Keeps}
 use Rattle.solver.specs.SessionState.{SessionState}
-use Rattle.wire.specs.Served.{Serves}
+use Rattle.http_stream.specs.Served.{Serves}
 use Rattle.web.specs.Serving.{AnswersMessage, at_desk, end_text}
 use Rattle.page_office.proofs.Served.{serves_all}
 use Rattle.page_office.proofs.serving.serve_at.Goals as goal

@@ -1,6 +1,6 @@
 use Rattle.std.proofs.Common.{List, ap, ◌∙◌}
 use Rattle.reports.proofs.Common.{Round, round_key, rises}
-use Rattle.rolls.proofs.LastRound.{rounds_rise}
+use Rattle.office_model.proofs.LastRound.{rounds_rise}
 use Rattle.reports.proofs.find.round_of.Goals as goal
 
 pub find-requires : goal.find-requires

@@ -1,7 +1,7 @@
 use Rattle.std.proofs.Common.{◌≡◌, ℕ, List, length, Some, slice_get, refl, sym, ap, subst, ◌∙◌, arith}
 use Rattle.reports.proofs.Common.{slice_get_read, Supervisor, Project, Placement, State, AreLoads, rows_of}
 use Rattle.spa.specs.Counted.{Counted}
-use Rattle.rolls.specs.Counted.{AreCounted}
+use Rattle.office_model.specs.Counted.{AreCounted}
 use Rattle.office.proofs.Few.{placements_few}
 use Rattle.reports.proofs.Lines.{next, appended}
 use Rattle.reports.proofs.places_report.by_supervisor.Goals as goal

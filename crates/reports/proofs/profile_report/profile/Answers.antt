@@ -1,6 +1,6 @@
 use Rattle.std.proofs.Common.{◌≡◌, ◌++◌, List, ℕ, [], ◌∷◌, length, codes, arith, ap, ◌∙◌, append_assoc}
 use Rattle.reports.proofs.Common.{flat_map, range_with_len, styled_decimal, RANKS, lists_of, placed_in_round, right, state_word, rank_row}
-use Rattle.rolls.specs.declared.rounds.Listed.{Listed}
+use Rattle.office_model.specs.declared.rounds.Listed.{Listed}
 use Rattle.reports.proofs.Widths.{right_number}
 use Rattle.reports.proofs.profile_report.profile.Goals as goal
 

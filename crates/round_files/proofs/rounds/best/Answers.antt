@@ -4,7 +4,7 @@ use Rattle.spa.specs.declared.TheConstants.{RANKS}
 use Rattle.spa.specs.Shape.{Shape}
 use Rattle.spa.specs.Matching.{profile}
 use Rattle.spa.specs.Matched.{pairs}
-use Rattle.rolls.proofs.Numbered.{listed}
+use Rattle.office_model.proofs.Numbered.{listed}
 use Rattle.round_files.proofs.RankText.{in_turn}
 use Rattle.round_files.proofs.rounds.best.Goals as goal
 

@@ -1,5 +1,5 @@
 use Rattle.store.proofs.Common.{get_or_default, ReadsCells, Damaged, ◌≡◌, ◌+◌, ◌∙◌, Err, length, get_or, sym, subst, rules}
-use Rattle.row_model.specs.declared.cell.Kind.TheVariants.{Text}
+use Rattle.schema.specs.declared.cell.Kind.TheVariants.{Text}
 use Rattle.store.proofs.ReadRows.{cells_more, no_row}
 use Rattle.store.proofs.rows.row_with.Goals as goal
 

@@ -1,5 +1,5 @@
 use Rattle.store.proofs.Common.{stopped_as, survives_weaker, Storage, inl, inr, state, Damaged, latest, IsTrue, ◌≡◌, ◌∙◌, Err, refl, sym, subst, rules}
-use Rattle.tables.specs.Ours.{IsOurs}
+use Rattle.sql_tables.specs.Ours.{IsOurs}
 use Rattle.store.proofs.Opening.{kept_whole, opens_found, others_kept, unfit_all, unopened_by}
 use Rattle.store.proofs.store.open_latest.Goals as goal
 

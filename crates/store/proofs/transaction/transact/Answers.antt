@@ -1,5 +1,5 @@
 use Rattle.store.proofs.Common.{◌≡◌, Err, sym, ap, ◌∙◌, rules, Seen, state, stopped_as, task_of}
-use Rattle.tables.specs.declared.fault.TableFault.TheVariants.{Storage}
+use Rattle.sql_tables.specs.declared.fault.TableFault.TheVariants.{Storage}
 use Rattle.store.proofs.Readings.{of_storage}
 use Rattle.store.proofs.Commit.{left_after, dropped_by, stopped_after_all}
 use Rattle.store.proofs.transaction.transact.Goals as goal

@@ -1,5 +1,5 @@
 use Rattle.std.proofs.Common.{◌+◌, ◌∙◌, ap}
-use Rattle.wire.specs.Run.{read_failed, write_failed}
+use Rattle.http_stream.specs.Run.{read_failed, write_failed}
 use Rattle.web.proofs.connections.serve_connection.Goals as goal
 
 pub returns-clause-served : goal.returns-clause-served

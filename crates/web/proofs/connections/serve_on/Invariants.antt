@@ -1,5 +1,5 @@
 use Rattle.std.proofs.Common.{◌≡◌, ◌≤◌, ℕ, ◌+◌}
-use Rattle.world.specs.WorldState.{IsPeer}
+use Rattle.host.specs.WorldState.{IsPeer}
 use Rattle.web.specs.Connections.{AreServed}
 use Rattle.web.specs.Serving.{AnswersFrom}
 use Rattle.web.specs.declared.TheConstants.{MAX_UNACCEPTED}

@@ -1,6 +1,6 @@
 use Rattle.std.proofs.Common.{◌≡◌, ℕ, ◌+◌, arith}
 use Rattle.web.specs.Serving.{AnswersFrom, AnswersMessage, AnswersOffice, at_desk, end_text}
-use Rattle.wire.proofs.OneMessage.{nothing_served}
+use Rattle.http_stream.proofs.OneMessage.{nothing_served}
 use Rattle.web.proofs.OneMessage.{message_seen, office_seen}
 use Rattle.web.proofs.Seen.{is_served_seen}
 use Rattle.web.proofs.service.serve_stream.Goals as goal

@@ -1,5 +1,5 @@
 use Rattle.std.proofs.Common.{sym, ap, subst, ◌∙◌, rules}
-use Rattle.rolls.specs.declared.request.Request.TheVariants as request
+use Rattle.office_model.specs.declared.request.Request.TheVariants as request
 use Rattle.desk.proofs.Common.{Makes, layers, State, IsSessionOf}
 use Rattle.desk.proofs.desk.Desk.preview.Goals as goal
 

@@ -1,8 +1,8 @@
 use Rattle.std.proofs.Common.{◌≡◌, inl, inr, Result, Err, None, refl, ap, subst, ◌∙◌, arith, rules}
 use Rattle.desk.proofs.Common.{State, Transforms, Makes, refusal, layers, state, Seen, IsCaused, IsHinderedAmong, Request, Done, Storage, CarriesOut}
-use Rattle.outside.specs.Changes.{MayChange}
+use Rattle.desk.specs.layers.Changes.{MayChange}
 use Rattle.desk.specs.Causes.{IsHinderedToAsk}
-use Rattle.outside.proofs.Allowed.{may_allowed}
+use Rattle.desk.proofs.layers.Allowed.{may_allowed}
 use Rattle.desk.proofs.Available.{available_so, ours_so}
 use Rattle.desk.proofs.Asked.{idle_saved}
 use Rattle.desk.proofs.SavedRows.{call_carried}

@@ -5,7 +5,7 @@ use Rattle.desk.proofs.SavedRows.{saved_keeps, kept_keeps}
 use Rattle.desk.proofs.SavedRows.{was_storage}
 use Rattle.store.specs.Available.{StaysOurs}
 use Rattle.store.proofs.Available.{room_for}
-use Rattle.tables.specs.Ours.{HasRoom, IsOurs}
+use Rattle.sql_tables.specs.Ours.{HasRoom, IsOurs}
 use Rattle.desk.proofs.persistent.PersistentOffice.exchange.Goals as goal
 
 -- changes that transform an office into the next one transform it into what the next one is exchanged for

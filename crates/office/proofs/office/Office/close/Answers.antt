@@ -1,8 +1,8 @@
 use Rattle.office.proofs.Common.{count_by, ◌==◌, ◌&&◌, ◌+◌, false, Done, put_all, State, placement_key, last_round, lists_of, IsFit, by_rank, round_instance, IsClosed, state_of, ◌≡◌, sym, ap, ◌∙◌, subst}
-use Rattle.rolls.specs.declared.request.Reply.TheVariants as reply
+use Rattle.office_model.specs.declared.request.Reply.TheVariants as reply
 use Rattle.spa.specs.Coded.{taken}
-use Rattle.closing.specs.Places.{placed_by}
-use Rattle.closing.specs.Changes.{after_placing, closing_changes, placed_reply}
+use Rattle.office.specs.closing.Places.{placed_by}
+use Rattle.office.specs.closing.Changes.{after_placing, closing_changes, placed_reply}
 use Rattle.office.proofs.Made.{last_put}
 use Rattle.office.proofs.office.Office.close.Goals as goal
 use Rattle.office.proofs.office.Office.close.Goals.{Joined-self-placements}

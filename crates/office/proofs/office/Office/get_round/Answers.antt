@@ -1,5 +1,5 @@
 use Rattle.office.proofs.Common.{option_map_or, option_copied, Placement, Listed, Round, by_rank, State, round_of, placed_in_round, placed_at_rank, state_of, ◌≡◌, [], Option, arith, Some, sym, ap, ◌∙◌, ◌+◌, ◌==◌, ◌&&◌, List, length, count_by, false}
-use Rattle.rolls.specs.declared.request.Reply.TheVariants as reply
+use Rattle.office_model.specs.declared.request.Reply.TheVariants as reply
 use Rattle.office.proofs.Few.{placements_few, counted_few, lists_few}
 use Rattle.office.proofs.office.Office.get_round.Goals as goal
 use Rattle.office.proofs.office.Office.get_round.Goals.{After-entries}

@@ -1,5 +1,5 @@
 use Rattle.office.proofs.Common.{◌&&◌, not, nat_le, false, MAX_IMPORTS, Import, Add, State, has_import, with_import, ◌≡◌, ℕ, ◌∷◌, [], ◌++◌, sym, ap, subst, ◌∙◌, List, length}
-use Rattle.rolls.specs.declared.request.Reply.TheVariants as reply
+use Rattle.office_model.specs.declared.request.Reply.TheVariants as reply
 use Rattle.office.proofs.ImportRows.{import_added, still_room, import_made}
 use Rattle.office.proofs.office.Office.import_new.Goals.{After-drop-id-inside-2}
 use Rattle.office.proofs.office.Office.import_new.Goals as goal

@@ -1,6 +1,6 @@
 use Rattle.office.proofs.Common.{IfOk, State, instance_left, ◌≡◌, ℕ, Some, subst}
 use Rattle.spa.specs.Named.{instance_of}
-use Rattle.rolls.specs.Counted.{count_in, count_with}
+use Rattle.office_model.specs.Counted.{count_in, count_with}
 use Rattle.office.proofs.office.Office.instance_of_round.Goals as goal
 
 pub returns : goal.returns

@@ -1,5 +1,5 @@
 use Rattle.office.proofs.Common.{◌&&◌, not, nat_le, false, List, length, MAX_IMPORTS, Import, State, has_import, IsFit, state_of, ◌≡◌, sym, subst}
-use Rattle.change_laws.proofs.FitAfterPut.{fit_with_import}
+use Rattle.office.proofs.changes.FitAfterPut.{fit_with_import}
 use Rattle.office.proofs.office.Office.keep.Goals as goal
 
 pub invariant_of-self-2 : goal.invariant_of-self-2

@@ -1,4 +1,4 @@
-use Rattle.rolls.specs.declared.request.Reply.TheVariants as reply
+use Rattle.office_model.specs.declared.request.Reply.TheVariants as reply
 use Rattle.office.proofs.Common.{OpenRound, put, State, aim_key, round_key, after_plain, opening_changes, state_of, ◌≡◌, ℕ, [], Some, ap, ◌∙◌, ◌+◌, true, length}
 use Rattle.office.proofs.Made.{made_fit, made_done}
 use Rattle.office.proofs.office.Office.open_round.Goals as goal

@@ -1,4 +1,4 @@
-use Rattle.rolls.specs.declared.entries.Project.{Project}
+use Rattle.office_model.specs.declared.entries.Project.{Project}
 use Rattle.office.proofs.Common.{ProjectTable, PutProject, put, State, project_key, has_project, after_plain, put_or_added, project_cells, state_of, ◌≡◌, [], ◌∷◌, refl, ap, ◌∙◌, List, is_some}
 use Rattle.office.proofs.Known.{lent_is_there}
 use Rattle.office.proofs.Made.{made_fit, made_done}

@@ -1,4 +1,4 @@
-use Rattle.rolls.specs.declared.entries.Student.{Student}
+use Rattle.office_model.specs.declared.entries.Student.{Student}
 use Rattle.office.proofs.Common.{StudentTable, PutStudent, put, State, student_key, has_student, after_plain, put_or_added, student_cells, state_of, ◌≡◌, [], ◌∷◌, refl, ap, ◌∙◌, List, is_some}
 use Rattle.office.proofs.Known.{lent_is_there}
 use Rattle.office.proofs.Made.{made_fit, made_done}

@@ -1,4 +1,4 @@
-use Rattle.rolls.specs.declared.entries.Supervisor.{Supervisor}
+use Rattle.office_model.specs.declared.entries.Supervisor.{Supervisor}
 use Rattle.office.proofs.Common.{SupervisorTable, PutSupervisor, put, State, supervisor_key, has_supervisor, put_or_added, supervisor_cells, after_plain, state_of, ◌≡◌, [], ◌∷◌, refl, ap, ◌∙◌, List, is_some}
 use Rattle.office.proofs.Known.{lent_is_there}
 use Rattle.office.proofs.Made.{made_fit, made_done}

@@ -1,6 +1,6 @@
 use Rattle.office.proofs.Common.{Round, Placement, ReopenRound, rises, State, placement_key, last_round, IsFit, after_plain, reopening_changes, kept_placements, state_of, ◌≡◌, Some, sym, ap, subst, ◌∙◌, ◌==◌, true, not, List}
-use Rattle.rolls.specs.declared.request.Reply.TheVariants as reply
-use Rattle.rolls.proofs.Places.{rises-filter}
+use Rattle.office_model.specs.declared.request.Reply.TheVariants as reply
+use Rattle.office_model.proofs.Places.{rises-filter}
 use Rattle.office.proofs.Made.{made_fit, made_done, last_put}
 use Rattle.office.proofs.ListPuts.{reopening_found}
 use Rattle.office.proofs.office.Office.reopen_round.Goals as goal

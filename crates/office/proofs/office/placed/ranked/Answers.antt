@@ -1,5 +1,5 @@
 use Rattle.office.proofs.Common.{RANKS, ℕ, ap, ◌∙◌, arith, ◌+◌, count_by, ◌==◌, ◌&&◌}
-use Rattle.rolls.proofs.Numbered.{listed}
+use Rattle.office_model.proofs.Numbered.{listed}
 use Rattle.office.proofs.office.placed.ranked.Goals as goal
 
 pub returns : goal.returns

@@ -1,5 +1,5 @@
 use Rattle.std.proofs.Common.{Ok, Err, refl, arith}
-use Rattle.wire.specs.Answers.{answer_bytes}
+use Rattle.http_stream.specs.Answers.{answer_bytes}
 use Rattle.web.proofs.OneMessage.{answered_from, gets_at}
 use Rattle.web.proofs.service.OfficeHandlerHandlerDesk.answer.Goals as goal
 

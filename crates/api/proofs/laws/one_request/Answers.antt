@@ -1,5 +1,0 @@
-use Rattle.api.proofs.OneRequest.{one_asked}
-use Rattle.api.proofs.laws.one_request.Goals as goal
-
-pub returns : goal.returns
-returns c = one_asked

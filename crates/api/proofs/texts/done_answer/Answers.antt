@@ -1,4 +1,0 @@
-use Rattle.api.proofs.texts.done_answer.Goals as goal
-
-pub returns : goal.returns
-returns c = c.json.ensures

@@ -1,5 +1,0 @@
-use Rattle.std.proofs.Common.{append_assoc}
-use Rattle.api.proofs.texts.number_body.Goals as goal
-
-pub returns-clause-items : goal.returns-clause-items
-returns-clause-items c = simp (c.push.ensures, c.push_labelled.ensures.items, c.new-out.ensures, append_assoc)

@@ -1,5 +1,0 @@
-use Rattle.closing.proofs.Common.{closing_changes, placement_added, ◌≡◌, ◌++◌, map, drop}
-use Rattle.closing.proofs.keeping.close_changes.Given as goal
-
-abbrev pub invariant-loop-placement : goal.invariant-loop-placement
-invariant-loop-placement l = l.changes.items ++ map placement_added (drop l.placement-index l.placed) ≡ closing_changes l.round l.placed

@@ -1,5 +1,0 @@
-use Rattle.closing.proofs.Common.{◌≡◌, ◌++◌, drop}
-use Rattle.closing.proofs.making.codes_of.Given as goal
-
-abbrev pub invariant-loop-code : goal.invariant-loop-code
-invariant-loop-code l = l.copies.items ++ drop l.code-index l.code-items ≡ l.choices

@@ -1,6 +1,0 @@
-use Rattle.std.proofs.Common.{◌∙◌}
-use Rattle.commands.proofs.Common.{found_of, first_value-rows}
-use Rattle.commands.proofs.reading.given_word.Goals as goal
-
-pub returns : goal.returns
-returns c = c.get_str.ensures ∙ first_value-rows (found_of c.args.given.now) c.args.argument.now.name.now

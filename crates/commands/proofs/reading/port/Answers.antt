@@ -1,7 +1,0 @@
-use Rattle.std.proofs.Common.{arith}
-use Rattle.commands.proofs.Common.{Number}
-use Rattle.commands.proofs.Numbers.{is_read}
-use Rattle.commands.proofs.reading.port.Goals as goal
-
-pub unwrap-requires : goal.unwrap-requires
-unwrap-requires c = is_read 16 (Number 1 65535) c.word.result.now c.parse.result c.parse.ensures.value.0 (omega arith) c.word.ensures.fits

@@ -1,6 +1,0 @@
-use Rattle.decoding.proofs.Common.{list_all, drafted, ◌≡◌, drop}
-use Rattle.decoding.proofs.EachWithin.{project_within}
-use Rattle.decoding.proofs.draft.PartialOffice.are_projects_within.Given as goal
-
-abbrev pub invariant-loop-position : goal.invariant-loop-position
-invariant-loop-position l = list_all (project_within (drafted l.self)) l.projects ≡ list_all (project_within (drafted l.self)) (drop l.position l.projects)

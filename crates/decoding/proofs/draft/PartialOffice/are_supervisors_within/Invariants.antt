@@ -1,6 +1,0 @@
-use Rattle.decoding.proofs.Common.{list_all, drafted, ◌≡◌, drop}
-use Rattle.decoding.proofs.EachWithin.{supervisor_within}
-use Rattle.decoding.proofs.draft.PartialOffice.are_supervisors_within.Given as goal
-
-abbrev pub invariant-loop-position : goal.invariant-loop-position
-invariant-loop-position l = list_all (supervisor_within (drafted l.self)) l.supervisors ≡ list_all (supervisor_within (drafted l.self)) (drop l.position l.supervisors)

@@ -1,5 +1,0 @@
-use Rattle.decoding.proofs.Common.{are_aimed, ◌≡◌, drop}
-use Rattle.decoding.proofs.whole.are_aimed.Given as goal
-
-abbrev pub invariant-loop-i : goal.invariant-loop-i
-invariant-loop-i l = are_aimed l.aims l.rounds ≡ are_aimed (drop l.i l.aims) (drop l.i l.rounds)

@@ -1,5 +1,0 @@
-use Rattle.decoding.proofs.GoesOn.{from_first}
-use Rattle.decoding.proofs.whole.only_last_open.Goals as goal
-
-pub loop-round-init : goal.loop-round-init
-loop-round-init c = from_first c.args.rounds.now

@@ -1,0 +1,5 @@
+use Rattle.std.proofs.Common.{append_assoc}
+use Rattle.http_api.proofs.texts.number_body.Goals as goal
+
+pub returns-clause-items : goal.returns-clause-items
+returns-clause-items c = simp (c.push.ensures, c.push_labelled.ensures.items, c.new-out.ensures, append_assoc)

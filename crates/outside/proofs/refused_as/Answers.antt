@@ -1,5 +1,0 @@
-use Rattle.std.proofs.Common.{rules}
-use Rattle.outside.proofs.refused_as.Goals as goal
-
-pub returns-in-Fields : goal.returns-in-Fields
-returns-in-Fields c = search rules

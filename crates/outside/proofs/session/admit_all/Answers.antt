@@ -1,5 +1,0 @@
-use Rattle.std.proofs.Common.{rules}
-use Rattle.outside.proofs.session.admit_all.Goals as goal
-
-pub loop-student-init : goal.loop-student-init
-loop-student-init c = search rules

@@ -1,8 +1,0 @@
-use Rattle.std.proofs.Common.{ℕ, List, Contains, map, sym, subst}
-use Rattle.outside.proofs.Common.{Project}
-use Rattle.outside.proofs.session.positions_of.Goals as goal
-
-pub position_of-requires : goal.position_of-requires
-position_of-requires c = record {
-  known = subst (λ (code : List ℕ). Contains (map (λ (p : Project). p.code) c.args.projects.now) code) (sym c.code-item.is) (c.requires.known c.loop-code.code-index c.code-item.result c.loop-code-test.true);
-}

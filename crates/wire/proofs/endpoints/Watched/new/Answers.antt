@@ -1,8 +1,0 @@
-use Rattle.std.proofs.Common.{refl}
-use Rattle.wire.proofs.endpoints.Watched.new.Goals as goal
-
-pub returns-clause-failures : goal.returns-clause-failures
-returns-clause-failures g c = refl
-
-pub returns-clause-open : goal.returns-clause-open
-returns-clause-open g c = refl

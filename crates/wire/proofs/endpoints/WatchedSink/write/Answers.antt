@@ -1,5 +1,0 @@
-use Rattle.std.proofs.Common.{refl}
-use Rattle.wire.proofs.endpoints.WatchedSink.write.Goals as goal
-
-pub returns-in-Ok-eq0-clause-count : goal.returns-in-Ok-eq0-clause-count
-returns-in-Ok-eq0-clause-count g c = refl

@@ -1,6 +1,0 @@
-use Rattle.std.proofs.Common.{◌≡◌, ◌+◌, min, take}
-use Rattle.wire.proofs.Common.{digits_value, MAX_BODY_BYTES}
-use Rattle.wire.proofs.fields.saturated.Given as goal
-
-abbrev pub invariant-loop-digit : goal.invariant-loop-digit
-invariant-loop-digit l = l.total ≡ min (digits_value 10 (take l.digit-index l.value)) (MAX_BODY_BYTES + 1)

@@ -1,5 +1,0 @@
-use Rattle.std.proofs.Common.{rules}
-use Rattle.world.proofs.files.read_up_to.Goals as goal
-
-pub returns : goal.returns
-returns g c = search rules depth 3
