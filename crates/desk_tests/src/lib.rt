@@ -1,5 +1,5 @@
-//! The tests of a desk that need a function of their own: streams in pieces, commands, sessions, and what fails one after another, each
-//! through public calls alone.
+//! The tests of a desk that need a function of their own: streams in pieces, commands, and what fails one after another, each through
+//! public calls alone.
 //!
 //! What rows can show stands in `scenarios`, and `docs/TESTS.md` says where a test of what goes.
 #![tactic(auto)]
@@ -31,6 +31,3 @@ mod programs;
 // Each allocation fails, one after another.
 #[cfg(test)]
 mod refused;
-// Where a desk caches a session, and what it returns.
-#[cfg(test)]
-mod session_tests;

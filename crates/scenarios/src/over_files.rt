@@ -30,9 +30,17 @@ fn is_answer(rt: &HostRuntime, written: &[u8], status: &str, body: &str) -> Resu
     Ok(head == want.as_str() && matches_cell(rt.alloc(), told.as_bytes(), body)?)
 }
 
-/// Whether a session is cached, where a row says so or says that none is.
+/// Whether a session is cached, where a row says so or says that none is. Where it has a number, whether one is cached whose relaxations
+/// are this number.
 fn is_kept<S: Alter>(desk: &Desk<S>, mark: &str) -> bool {
-    mark.is_empty() || desk.session_steps().is_some() == (mark == "kept")
+    match mark {
+        "" => true,
+        "none" => desk.session_steps().is_none(),
+        "kept" => desk.session_steps().is_some(),
+        counted => desk
+            .session_steps()
+            .is_some_and(|steps| counted.parse() == Ok(steps)),
+    }
 }
 
 /// Asks the request of a line, and compares the answer, and whether a session is cached then.
