@@ -1,17 +1,9 @@
 -- What is printed of an import is an outcome of its line.
-use Rattle.std.proofs.Common.{◌≡◌, inl, inr, ℕ, List, Result, Ok, Err, IfOk, IfErr, MatchResult, Vec, ap, ◌∙◌, subst}
-use Rattle.cli.proofs.Common.{Global, Refusal, Request, Found, IsReadOf, IsImportLine, ImportsFile, MayDoAt, Outcome, refused, IsImportOf, IsImportOfFile, IsUnreadOf}
+use Rattle.std.proofs.Common.{◌≡◌, inl, inr, ℕ, List, Result, Ok, Err, MatchResult, ap, ◌∙◌, subst}
+use Rattle.cli.proofs.Common.{Refusal, Request, Found, IsImportLine, ImportsFile, MayDoAt, Outcome, refused, IsImportOf, IsImportOfFile}
 use Rattle.office_model.specs.declared.import.ImportKind.{ImportKind}
 use Rattle.cli.specs.declared.tasks.Task.TheVariants as task
-use Rattle.office_model.specs.declared.TheConstants.{MAX_IMPORT_BYTES}
 use Rattle.cli.proofs.Writers.{of_any_file}
-
--- the request of what was read of a file
-pub of_read : (holds : Found → Type 0) (id : List ℕ) (kind : ImportKind) (read : Result (Vec ℕ Global) Refusal) (made : Result Request Refusal)
-    → IfOk read (λ bytes. IsReadOf holds MAX_IMPORT_BYTES bytes.items) → IfErr read (IsUnreadOf holds)
-    → MatchResult read (λ bytes. IsImportOf id kind bytes.items made) (λ r. made ≡ Err r) → IsImportOfFile holds id kind made
-of_read holds id kind (Ok bytes) made ok why is = inl (bytes.items, ok, is)
-of_read holds id kind (Err r) made ok why is = inr (r, why, is)
 
 -- a request of these bytes that was asked, or why it was not made, is printed
 imports : (name id : List ℕ) (kind : ImportKind) (bytes : List ℕ) (made : Result Request Refusal) (o : Outcome) → IsImportOf id kind bytes made

@@ -1,6 +1,5 @@
 //! The request of an import of a file, and the asking of it at the office of a database.
 
-ghost use Rattle.std.specs.Prelude.{◌≡◌, IfOk, MatchResult};
 ghost use Rattle.cli.specs.Outputs.{CanFail};
 ghost use Rattle.cli.specs.Databases.{AskedAt};
 ghost use Rattle.cli.specs.Imports.{IsImportOf, IsImportOfFile};
@@ -13,51 +12,21 @@ use crate::status::Status;
 use crate::tasks::Task;
 use host::World;
 use office_model::{Bytes, ImportKind, MAX_IMPORT_BYTES, Refusal, Request, Text};
-use std::alloc::{AllocError, Global};
+use std::alloc::Global;
 use web::Sink;
 
-/// Returns the request of an import of a file's bytes.
-fn import_of(
-    alloc: Global,
-    kind: ImportKind,
-    id: &str,
-    bytes: Vec<u8>,
-) -> Result<Request, AllocError>
-    ensures { IfOk result (λ q. q ≡ Request.Import id.now kind bytes.items) }
-{
-    Ok(Request::Import {
-        id: Text::of(alloc, id)?,
-        kind,
-        bytes: Bytes::new(alloc, bytes)?,
-    })
-}
-
-/// Returns the request of an import of a file's bytes, or why it is not made.
+/// Returns the request of an import of a file's bytes. An `Err` is `TooLarge` or `Memory`.
 fn import(alloc: Global, kind: ImportKind, id: &str, bytes: Vec<u8>) -> Result<Request, Refusal>
     ensures { IsImportOf id.now kind bytes.items result }
 {
     if bytes.len() > MAX_IMPORT_BYTES {
         return Err(Refusal::TooLarge);
     }
-    match import_of(alloc, kind, id, bytes) {
-        Ok(asked) => Ok(asked),
-        Err(_) => Err(Refusal::Memory),
-    }
-}
-
-/// Returns the request of an import of what was read of a file, or the refusal of the reading.
-fn import_read(
-    alloc: Global,
-    kind: ImportKind,
-    id: &str,
-    read: Result<Vec<u8>, Refusal>,
-) -> Result<Request, Refusal>
-    ensures { MatchResult read (λ bytes. IsImportOf id.now kind bytes.items result) (λ refusal. result ≡ Err refusal) }
-{
-    match read {
-        Ok(bytes) => import(alloc, kind, id, bytes),
-        Err(refusal) => Err(refusal),
-    }
+    Ok(Request::Import {
+        id: Text::of(alloc, id)?,
+        kind,
+        bytes: Bytes::new(alloc, bytes)?,
+    })
 }
 
 /// Returns the request of an import of a file, or why it is not made.
@@ -70,8 +39,8 @@ pub(crate) fn import_file<W: World>(
 ) -> Result<Request, Refusal>
     ensures { IsImportOfFile ((W.state world.now).holds file.now) id.now kind result }
 {
-    let read = read_file(world, file, MAX_IMPORT_BYTES);
-    import_read(alloc, kind, id, read)
+    let bytes = read_file(world, file, MAX_IMPORT_BYTES)?;
+    import(alloc, kind, id, bytes)
 }
 
 /// Asks a request of the office of a database file, as `do_on` does, or prints why it was not made.

@@ -1,7 +1,6 @@
 //! The lines on a round file.
 
 ghost use Rattle.std.specs.Prelude.{◌≡◌, MatchResult};
-ghost use Rattle.round_files.specs.Public.{IsCheckedOwn};
 ghost use Rattle.cli.specs.Outputs.{CanFail};
 ghost use Rattle.cli.specs.Outcomes.{Prints, OnFile};
 ghost use Rattle.cli.specs.Inside.Rounds.{ComesBy};
@@ -30,13 +29,6 @@ pub(crate) enum RoundTask<'a> {
     CheckOwn(&'a str),
 }
 
-/// Returns what a student's own check says of a public text, by the student's code and list.
-fn judged_own(alloc: Global, text: &[u8], own: &str) -> Result<String, Trouble>
-    ensures { IsCheckedOwn text.now own.now result }
-{
-    checked_own(alloc, text, own.as_bytes())
-}
-
 /// Does this with the round that was read of a file, or gives the refusal of the reading.
 fn do_read(
     alloc: Global,
@@ -50,7 +42,7 @@ fn do_read(
             RoundTask::Solve => solved(alloc, &bytes),
             RoundTask::Check => checked(alloc, &bytes),
             RoundTask::Publish => published(alloc, &bytes),
-            RoundTask::CheckOwn(own) => judged_own(alloc, &bytes, own),
+            RoundTask::CheckOwn(own) => checked_own(alloc, &bytes, own.as_bytes()),
         },
         Err(refusal) => Err(Trouble::Refused(refusal)),
     }
