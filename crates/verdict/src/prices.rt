@@ -21,6 +21,7 @@ pub struct Prices {
 }
 
 /// Whether each place of a price is within the limit.
+#[tactic(auto, using(std::proofs::lemmas::Int::ints))]
 fn is_in_range(price: &[i64; COMPONENTS]) -> bool
     ensures { IsTrue result ↔ EachInRange price.now }
 {
