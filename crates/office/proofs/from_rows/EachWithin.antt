@@ -1,6 +1,8 @@
 -- A test of all entries, made from the first one on.
-use Rattle.office.proofs.from_rows.Common.{◌&&◌, nat_le, list_all, nat_tests, slice_get_read, State, supervisor_key, project_key, has_supervisor, placed_in_project, placed_with_supervisor, rises, MAX_SUPERVISORS, MAX_PROJECTS, MAX_STUDENTS, MAX_ROUNDS, MAX_IMPORTS, first_so, second_so, are_few, are_offered, all_from_test, ◌≡◌, ℕ, suc, ◌+◌, ◌<◌, ◌≤◌, Bool, true, false, List, ◌∷◌, length, drop, get_or, Some, slice_get, refl, sym, ap, subst, ◌∙◌, arith, SupervisorEntry as Supervisor, ProjectEntry as Project}
-use Rattle.std.proofs.Math.Seq.{drop-cons}
+use Rattle.office.proofs.from_rows.Common.{◌&&◌, nat_le, list_all, nat_tests, slice_get_read, State, supervisor_key, project_key, has_supervisor, placed_in_project, placed_with_supervisor, rises, MAX_SUPERVISORS, MAX_PROJECTS, MAX_STUDENTS, MAX_ROUNDS, MAX_IMPORTS, first_so, second_so, are_few, are_offered, all_from_test, ◌≡◌, ℕ, zero, suc, ◌+◌, ◌<◌, ◌≤◌, Bool, true, false, List, [], ◌∷◌, length, drop, get_or, Some, slice_get, refl, sym, ap, subst, ◌∙◌, arith, SupervisorEntry as Supervisor, ProjectEntry as Project}
+use Rattle.std.proofs.Common.{◌⊎◌, inl, inr}
+use Rattle.std.proofs.lemmas.Bool.{cases_lt}
+use Rattle.std.proofs.lemmas.List.{drop_more}
 use Rattle.office_model.specs.Counted.{AreRolls}
 use Rattle.office.proofs.from_rows.Tests.{at_most}
 
@@ -12,42 +14,57 @@ project_within o p = nat_le (placed_in_project o p.code) p.quota
 abbrev pub supervisor_within : State → Supervisor → Bool
 supervisor_within o s = nat_le (placed_with_supervisor o s.code) s.quota
 
-module _ {E : Type 0} (test : E → Bool) (es : List E) (at : ℕ) (e : E) (low : at < length es) (is : e ≡ get_or es at e) (before : list_all test es ≡ list_all test (drop at es)) where
-  from_here : list_all test es ≡ (test e && list_all test (drop (suc at) es))
-  from_here = before ∙ ap (list_all test) (drop-cons es at e low ∙ ap (λ x. x ∷ drop (suc at) es) (sym is))
-
-  -- an entry that passes leaves it to those after it
-  passes : test e ≡ true → list_all test es ≡ list_all test (drop (at + 1) es)
-  passes h =
-      let next : suc at ≡ at + 1 = omega arith in
-      from_here ∙ ap (λ b. b && list_all test (drop (suc at) es)) h ∙ ap (λ n. list_all test (drop n es)) next
-
-  -- one that does not decides it
-  fails : test e ≡ false → list_all test es ≡ false
-  fails h = from_here ∙ ap (λ b. b && list_all test (drop (suc at) es)) h
-
 -- what is counted at an entry's place is no more than its quota where the entry keeps it
-not_above : (quota there counted placed : ℕ) → quota ≡ there → counted ≡ placed → counted ≤ there → nat_le placed quota ≡ true
-not_above quota there counted placed is same h = grind (arith, nat_tests)
+not_above : (quota counted placed : ℕ) → counted ≡ placed → counted ≤ quota → nat_le placed quota ≡ true
+not_above quota counted placed same h = grind (arith, nat_tests)
 
-above : (quota there counted placed : ℕ) → quota ≡ there → counted ≡ placed → there < counted → nat_le placed quota ≡ false
-above quota there counted placed is same h = grind (arith, nat_tests)
+above : (quota counted placed : ℕ) → counted ≡ placed → quota < counted → nat_le placed quota ≡ false
+above quota counted placed same h = grind (arith, nat_tests)
 
--- so an entry keeps its quota, and leaves the test to those after it, or it does not, and decides it
-module _ {E : Type 0} (quota placed : E → ℕ) (own all : List E) (same : all ≡ own) (at : ℕ) (e : E) (low : at < length all) (is : e ≡ get_or all at e) (counted : ℕ)
-    (count : (x : E) → slice_get own at ≡ Some x → counted ≡ placed x)
-    (before : list_all (λ x. nat_le (placed x) (quota x)) all ≡ list_all (λ x. nat_le (placed x) (quota x)) (drop at all)) where
+-- the entry at a position, whatever a look-up past the end would give
+entry_at : {E : Type 0} (all : List E) (at : ℕ) → at < length all → (e : E) × ((d : E) → get_or all at d ≡ e)
+entry_at [] at h = absurd (omega arith)
+entry_at (x ∷ xs) zero h = (x, λ d. refl)
+entry_at (x ∷ xs) (suc n) h = entry_at xs n (omega arith)
+
+-- What is known at a position where quotas are tested: it is past the last entry; or the entry there keeps its quota, and leaves the test to
+-- those after it; or it does not, and decides it.
+abbrev pub IsKnownAt : {E : Type 0} (quota placed : E → ℕ) (all : List E) (counts : ℕ → ℕ) (at : ℕ) → Type 0
+IsKnownAt {E} quota placed all counts at =
+    (length all ≤ at) ⊎ ((e : E) × ((d : E) → get_or all at d ≡ e)
+    × (((counts at ≤ quota e) × (list_all (λ x. nat_le (placed x) (quota x)) (drop at all) ≡ list_all (λ x. nat_le (placed x) (quota x)) (drop (at + 1) all)))
+    ⊎ ((quota e < counts at) × (list_all (λ x. nat_le (placed x) (quota x)) (drop at all) ≡ false))))
+
+module _ {E : Type 0} (quota placed : E → ℕ) (own all : List E) (same : all ≡ own) (counts : ℕ → ℕ) (count : (k : ℕ) (x : E) → slice_get own k ≡ Some x → counts k ≡ placed x) where
   abbrev keeps : E → Bool
   keeps x = nat_le (placed x) (quota x)
 
-  there : counted ≡ placed e
-  there = count e (ap (λ es. slice_get es at) (sym same) ∙ slice_get_read all (length all) at e refl low is)
+  -- that is known at each
+  pub known_at : (at : ℕ) → IsKnownAt quota placed all counts at
+  known_at at = elim (cases_lt at (length all)) [
+    | inl low ↦
+        let entry = entry_at all at low in
+        let e = entry.0 in
+        let counted : counts at ≡ placed e = count at e (ap (λ es. slice_get es at) (sym same) ∙ slice_get_read all (length all) at e refl low (sym (entry.1 e))) in
+        let first : list_all keeps (drop at all) ≡ (keeps e && list_all keeps (drop (at + 1) all)) =
+        ap (list_all keeps) (drop_more all at e low ∙ ap (λ x. x ∷ drop (at + 1) all) (entry.1 e)) in
+        inr (
+          e,
+          entry.1,
+          elim (cases_lt (quota e) (counts at)) [
+            | inl over ↦ inr (over, first ∙ ap (λ b. b && list_all keeps (drop (at + 1) all)) (above (quota e) (counts at) (placed e) counted over))
+            | inr fits ↦ inl (fits, first ∙ ap (λ b. b && list_all keeps (drop (at + 1) all)) (not_above (quota e) (counts at) (placed e) counted fits))
+          ],
+        )
+    | inr past ↦ inl past
+  ]
 
-  pub goes_on : counted ≤ quota (get_or all at e) → list_all keeps all ≡ list_all keeps (drop (at + 1) all)
-  goes_on h = passes keeps all at e low is before (not_above (quota e) _ counted _ (ap quota is) there h)
-
-  pub is_over : quota (get_or all at e) < counted → false ≡ list_all keeps own
-  is_over h = sym (ap (list_all keeps) (sym same) ∙ fails keeps all at e low is before (above (quota e) _ counted _ (ap quota is) there h))
+-- an entry that keeps its quota leaves the test to those after it
+pub goes_on : {E : Type 0} (quota placed : E → ℕ) (all : List E) (counts : ℕ → ℕ) (at : ℕ) (e : E) → at < length all → counts at ≤ quota (get_or all at e)
+    → IsKnownAt quota placed all counts at → list_all (λ x. nat_le (placed x) (quota x)) (drop at all) ≡ list_all (λ x. nat_le (placed x) (quota x)) (drop (at + 1) all)
+goes_on quota placed all counts at e low fits (inl past) = absurd (omega (arith, past, low))
+goes_on quota placed all counts at e low fits (inr (x, is, inl keeps)) = keeps.1
+goes_on quota placed all counts at e low fits (inr (x, is, inr over)) = absurd (omega (arith, over.0, ap quota (is e), fits))
 
 -- rolls that are not too long, and whose projects are all offered, are such that placements are counted by them
 pub counted_rolls : (o : State) (ss : List Supervisor) (ps : List Project) → ss ≡ o.supervisors → ps ≡ o.projects → rises supervisor_key o.supervisors ≡ true → rises project_key o.projects ≡ true

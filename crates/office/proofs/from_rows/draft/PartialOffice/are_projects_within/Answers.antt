@@ -1,13 +1,17 @@
-use Rattle.office.proofs.from_rows.Common.{placed_in_project, drafted, ◌∙◌}
-use Rattle.office.proofs.from_rows.EachWithin.{goes_on, is_over}
+use Rattle.office.proofs.from_rows.Common.{placed_in_project, drafted, list_all, ProjectEntry as Project, ap, arith, sym, ◌+◌, ◌∙◌}
+use Rattle.std.specs.Prelude.{slice_index}
+use Rattle.office.proofs.from_rows.EachWithin.{goes_on, known_at, project_within}
 use Rattle.office.proofs.from_rows.draft.PartialOffice.are_projects_within.Goals as goal
 
-pub loop-position-preserved : goal.loop-position-preserved
-loop-position-preserved c =
-    goes_on (λ x. x.quota) (λ x. placed_in_project (drafted c.args.self.now) x.code) c.args.self.now.projects c.entries-projects.result.now c.entries-projects.ensures.all c.loop-position.position _ c.loop-position-test.true c.index-projects-position.is _
-    (λ x at. c.in_project.ensures ∙ c.requires.counted.in_project c.loop-position.position x at) c.loop-position.invariant c.if-in_project-projects.false
+pub loop-position-init : goal.loop-position-init
+loop-position-init c = record {
+  same = ap (list_all (project_within (drafted c.args.self.now))) (sym c.entries-projects.ensures.all);
+  known = known_at (λ (e : Project). e.quota) (λ (e : Project). placed_in_project (drafted c.args.self.now) e.code) c.args.self.now.projects c.entries-projects.result.now c.entries-projects.ensures.all (slice_index c.args.counts.now.projects) c.requires.counted.in_project 0;
+}
 
-pub returns-then-in_project-projects : goal.returns-then-in_project-projects
-returns-then-in_project-projects c =
-    is_over (λ x. x.quota) (λ x. placed_in_project (drafted c.args.self.now) x.code) c.args.self.now.projects c.entries-projects.result.now c.entries-projects.ensures.all c.loop-position.position _ c.loop-position-test.true c.index-projects-position.is _
-    (λ x at. c.in_project.ensures ∙ c.requires.counted.in_project c.loop-position.position x at) c.loop-position.invariant c.if-in_project-projects.true
+pub loop-position-preserved : goal.loop-position-preserved
+loop-position-preserved c = record {
+  same = c.loop-position.invariant.same
+      ∙ goes_on (λ (e : Project). e.quota) (λ (e : Project). placed_in_project (drafted c.args.self.now) e.code) c.entries-projects.result.now (slice_index c.args.counts.now.projects) c.loop-position.position c.index-projects-position.result c.loop-position-test.true (omega arith) c.loop-position.invariant.known;
+  known = known_at (λ (e : Project). e.quota) (λ (e : Project). placed_in_project (drafted c.args.self.now) e.code) c.args.self.now.projects c.entries-projects.result.now c.entries-projects.ensures.all (slice_index c.args.counts.now.projects) c.requires.counted.in_project (c.loop-position.position + 1);
+}
