@@ -30,8 +30,8 @@ few_read bytes rows read =
     omega (arith, length-map rows fields_of)
 
 -- where a record of another length is found, it is the fault
-pub other_found : (kind : ImportKind) (rest : List Row) (before : ℕ) → Some before ≡ position (λ r. has_other_length kind (fields_of r)) rest → requests_after kind (map fields_of rest) ≡ Err (Fields (before + 1))
-other_found kind rest before found = rw (position_map (has_other_length kind) fields_of rest, ← found) refl
+pub other_found : (kind : ImportKind) (rest : List Row) (before number : ℕ) → before + 1 ≡ number → Some before ≡ position (λ r. has_other_length kind (fields_of r)) rest → requests_after kind (map fields_of rest) ≡ Err (Fields number)
+other_found kind rest before number next found = rw (position_map (has_other_length kind) fields_of rest, ← found) (ap (λ (n : ℕ). Err (Fields n)) next)
 
 -- where none is found, each record has its request
 pub none_found : (kind : ImportKind) (rest : List Row) → None ≡ position (λ r. has_other_length kind (fields_of r)) rest → requests_after kind (map fields_of rest) ≡ Ok (map (λ r. request_of kind (fields_of r)) rest)
