@@ -1,8 +1,8 @@
 -- The names that most proofs here cite, passed on from one place. Declares nothing.
-pub use Rattle.cli.specs.Databases.{AskedAt, Came, ComesFrom, CommandAt, DoesOver, DoneAt, IsDone, IsFoundFor, IsOfficeIn, IsOfficeOf, IsRefusalOf, IsUnfound, IsWhyUnopened, LeftBy, LineAt, PrintsOver, TakesTo, WasClean, WordsAt}
+pub use Rattle.cli.specs.Databases.{AskedAt, Came, ComesFrom, CommandAt, CutsOff, CutsOver, DoesOver, DoneAt, IsDone, IsFoundFor, IsOfficeIn, IsOfficeOf, IsRefusalOf, IsUnfound, IsWhyUnopened, LeftBy, LineAt, PrintsOver, TakesTo, WasClean, WordsAt}
 pub use Rattle.cli.specs.Imports.{IsImportOf, IsImportOfFile, IsUnreadOf}
 pub use Rattle.cli.specs.Inside.Rounds.{ComesBy}
-pub use Rattle.cli.specs.Outcomes.{ComesOf, ComesTo, ImportsFile, IsImportLine, IsServed, IsUnbound, IsUnopened, IsUnreadFile, MayCome, MayDo, MayDoAt, OfDatabase, OnFile, Outcome, Prints, ServesAt, behind, counts_text, listening, named_line, new_database, of_answer, of_round, printed_reply, prints, prints_err, refusal_line, refused}
+pub use Rattle.cli.specs.Outcomes.{ComesOf, ComesTo, ImportsFile, IsImportLine, IsServed, IsUnbound, IsUnopened, IsUnreadFile, MayCome, MayDo, MayDoAt, OfDatabase, OnFile, Outcome, Prints, ServesAt, ServesBehind, behind, counts_text, listening, named_line, new_database, of_answer, of_round, printed_reply, prints, prints_err, refusal_line, refused}
 pub use Rattle.cli.specs.Outputs.{Both, HasPrinted, Output, both_failures}
 pub use Rattle.cli.specs.declared.status.Status.{Status}
 pub use Rattle.cli.specs.declared.status.Status.TheVariants.{Failure, Success, Usage}

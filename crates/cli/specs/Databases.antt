@@ -1,5 +1,5 @@
 -- What a line does at a database and leaves of it, and what comes of closing the file.
-use Rattle.std.specs.Prelude.{◌≡◌, ◌≢◌, ◌⊎◌, ◌≤◌, ℕ, false, List, ◌++◌, string_bytes, Option, Some, None, Result, Ok, Err, IfOk, IfErr, IsTrue}
+use Rattle.std.specs.Prelude.{◌≡◌, ◌≢◌, ◌⊎◌, ◌+◌, ℕ, ⊤, false, List, ◌++◌, string_bytes, Option, Some, None, Result, Ok, Err, IfOk, IfErr}
 use Rattle.sqlite_disk.specs.declared.Disk as disk
 use Rattle.sqlite_disk.specs.declared.Files.{Files}
 use Rattle.sqlite_wal.specs.Reads.{AreClean}
@@ -26,14 +26,12 @@ use Rattle.office_model.specs.declared.request.Request.{Request}
 use Rattle.office_model.specs.declared.request.Request.TheVariants as request
 use Rattle.office_model.specs.State.{State, empty}
 use Rattle.office_model.specs.Fit.{IsFit}
-use Rattle.office_model.specs.Run.{Step}
-use Rattle.desk.specs.layers.Layers.{layers}
 use Rattle.sql_tables.specs.Causes.{IsStopped}
 use Rattle.sql_tables.specs.Steps.{IsKept}
 use Rattle.store.specs.Causes.{IsHinderedOpening}
 use Rattle.store.specs.Reading.{IsDamaged}
 use Rattle.store.specs.declared.edition.Edition.{Edition}
-use Rattle.store.specs.Tables.{HasNone, Opens, StandsIn}
+use Rattle.store.specs.Tables.{HasNone, StandsIn}
 use Rattle.desk.specs.Keeping.{Keeps}
 use Rattle.desk.specs.DeskState.{DeskState, IsOpened as IsDeskOpened}
 use Rattle.web.specs.Connections.{Connect, Visit}
@@ -48,9 +46,9 @@ use Rattle.args.specs.Reading.{IsAnswer}
 use Rattle.cli.specs.declared.tasks.Task.{Task}
 use Rattle.cli.specs.declared.tasks.Task.TheVariants as task
 use Rattle.std.specs.Io.KnownBytes.{Appends}
-use Rattle.cli.specs.Outputs.{Both, HasCut}
+use Rattle.cli.specs.Outputs.{Both, HasCut, both_failures}
 use Rattle.cli.specs.Imports.{IsImportOfFile}
-use Rattle.cli.specs.Outcomes.{MayComeOf, OfDatabase, OnFile, Outcome, ServesAt, Prints, new_database, of_answer, refused}
+use Rattle.cli.specs.Outcomes.{MayComeOf, OfDatabase, OnFile, Outcome, ServesAt, ServesBehind, Prints, new_database, of_answer, refused}
 use Rattle.cli.specs.declared.status.Status.{Status}
 use Rattle.cli.specs.declared.status.Status.TheVariants.{Failure}
 
@@ -96,6 +94,12 @@ module _ {S : Type 0} (ghosts : Ghosts S) (ports : ℕ → PortState) where
   TakesTo (task.Ask asked) before after = (answer : Result Reply Refusal) × GetsAt ghosts before asked answer after
   TakesTo (task.Serve serving) before after = (came : List Visit) × Connect (AnswersFrom ghosts) (ports serving.port).peers before came after
 
+  -- where a writer failed, nobody was served before the line of the port was written
+  abbrev pub CutsOff : {O E : Type 0} → Both O E → Both O E → Task → DeskState S → DeskState S → Type 0
+  CutsOff old new (task.Ask asked) before after = ⊤
+  CutsOff old new (task.Serve serving) before after =
+      both_failures new ≡ both_failures old + 1 → ServesBehind (AnswersFrom ghosts) (ports serving.port).peers serving.port serving.count before after old.out.written new.out.written
+
 module _ {S : Type 0} (ghosts : Ghosts S) where
   -- The office of the database was opened at this desk, this was done there, and the tables stand for the office after it. A disk that is
   -- clean at the end was clean when the office was opened.
@@ -122,6 +126,10 @@ module _ {S : Type 0} (ghosts : Ghosts S) (ports : ℕ → PortState) where
   abbrev pub LeftBy : Task → Status → Held S → Held S → Type 0
   LeftBy done status first last =
       IsDone ghosts (TakesTo ghosts ports done) first last ⊎ ((status ≡ Failure) × StaysSo (state ghosts first) (state ghosts last))
+
+  -- the same of a task at a database, whose office may not have been opened
+  abbrev pub CutsOver : {O E : Type 0} → Both O E → Both O E → Task → Held S → Held S → Type 0
+  CutsOver old new done first last = IsDone ghosts (CutsOff ghosts ports old new done) first last ⊎ StaysSo (state ghosts first) (state ghosts last)
 
   -- what is printed of a task at the database with this name: the name first, where none of the tables is there yet, then what it comes to
   abbrev pub PrintsOver : List ℕ → Task → Held S → Held S → Outcome → Type 0
@@ -166,6 +174,7 @@ pub record DoneOver {D : Type 0} {g : disk.Ghosts D} {O E : Type 0} (world : Wor
   pub leaves : LeavesFile world name done first last came status
   pub printed : Prints (PrintsOver over_files world.ports name done first last) old new status
   pub named : HasNone (file_state first).now.schema → IsNamedFirst name (last ≡ first) old new
+  pub cut : CutsOver over_files world.ports old new done first last
 
 -- the refusal of a database file that is not opened by this fault
 abbrev pub IsRefusalOf : Error → Refusal → Type 0

@@ -18,7 +18,7 @@ use Rattle.office_model.specs.Fit.{IsFit}
 use Rattle.office_model.specs.Run.{Step}
 use Rattle.office_model.specs.RefusalInfo.{number_of, name_of}
 use Rattle.desk.specs.layers.Layers.{layers}
-use Rattle.web.specs.Connections.{AreAwaited, Connect, Visit, in_a_row, lines_after}
+use Rattle.web.specs.Connections.{AreAwaited, Connect, SomeServed, Visit, in_a_row, lines_after}
 use Rattle.web.specs.declared.TheConstants.{MAX_UNACCEPTED}
 use Rattle.web.specs.Serving.{AnswersOffice}
 use Rattle.http_stream.specs.Run.{MessageText}
@@ -156,6 +156,12 @@ module _ {D : Type 0} (step : D → MessageText → List ℕ → D → Type 0) (
     pub ends : ((length came ≡ count) × (o.status ≡ Success)) ⊎ ((length came < count) × (in_a_row 0 came ≡ MAX_UNACCEPTED) × (o.status ≡ Failure))
     pub out : o.out ≡ listening port ++ lines_after 0 came
     pub silent : o.err ≡ []
+
+  -- Nobody was served, or the line of the port was written first, and then the lines of those who were, but for the last one's, of which a
+  -- part was.
+  abbrev pub ServesBehind : ℕ → ℕ → D → D → Option (List ℕ) → Option (List ℕ) → Type 0
+  ServesBehind port count before after w0 w =
+      (after ≡ before) ⊎ ((between : Option (List ℕ)) × Appends w0 between (listening port) × SomeServed step peers before count between w after)
 
 module _ {D : Type 0} (step : D → MessageText → List ℕ → D → Type 0) (at : PortState) where
   -- those of this port were, or it could not be bound

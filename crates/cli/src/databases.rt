@@ -6,7 +6,7 @@ ghost use Rattle.sqlite.specs.Held.{state};
 ghost use Rattle.store.specs.Tables.{HasNone};
 ghost use Rattle.cli.specs.Outputs.{CanFail};
 ghost use Rattle.cli.specs.Outcomes.{Prints};
-ghost use Rattle.cli.specs.Databases.{DoesOver, PrintsOver, LeftBy, IsClosing, IsNamedFirst};
+ghost use Rattle.cli.specs.Databases.{CutsOver, DoesOver, PrintsOver, LeftBy, IsClosing, IsNamedFirst};
 
 use crate::opening::{Closing, close_file};
 use crate::outputs::Outputs;
@@ -36,6 +36,7 @@ fn do_over<S: Alter + Drop, P: Ports, O: Sink, E: Sink>(
 
     // Where a writer has failed no outcome is printed, and it is still known what is left.
     ensures left { LeftBy S.Store (P.state ports) task result.0 connection result.1 }
+    ensures cut { CutsOver S.Store (P.state ports) outputs.old outputs.new task connection result.1 }
 {
     match Desk::open(alloc, connection) {
         Ok(mut desk) => {
@@ -65,6 +66,7 @@ fn do_named<S: Alter + Drop, P: Ports, O: Sink, E: Sink>(
     ensures printed { Prints (PrintsOver S.Store (P.state ports) name.now task connection result.1) outputs.old outputs.new result.0 }
     ensures left { LeftBy S.Store (P.state ports) task result.0 connection result.1 }
     ensures named { HasNone (state S.Store connection).now.schema → IsNamedFirst name.now (result.1 ≡ connection) outputs.old outputs.new }
+    ensures cut { CutsOver S.Store (P.state ports) outputs.old outputs.new task connection result.1 }
 {
     if !has_none(connection.schema()) {
         return do_over(alloc, ports, connection, task, outputs);
@@ -90,6 +92,7 @@ pub(crate) fn do_and_close<D: Disk + Drop, P: Ports, O: Sink, E: Sink>(
     // One connection shows what was printed and what is left, and it is the one that was closed.
     ensures { (last : _) × Prints (PrintsOver over_files (P.state ports) name.now task connection last) outputs.old outputs.new result.0
         × (HasNone (file_state connection).now.schema → IsNamedFirst name.now (last ≡ connection) outputs.old outputs.new)
+        × CutsOver over_files (P.state ports) outputs.old outputs.new task connection last
         × LeftBy over_files (P.state ports) task result.0 connection last × IsClosing last result.1 }
 {
     let (status, connection) = do_named(alloc, ports, name, connection, task, outputs);

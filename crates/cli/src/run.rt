@@ -96,7 +96,7 @@ fn do_line<W: World, O: Sink, E: Sink>(
 ///
 /// A result is printed with status 0, and a check that failed with status 1. A refusal, a bad line of a round text or a port
 /// that cannot be bound is printed with status 1, a fault of the line with status 2, and help or the version is printed with status 0.
-/// Where a writer fails, the status is 1, and what was done stays done.
+/// Where a writer fails, the status is 1, and what was done stays done; nobody is served before the line of the port is out.
 pub fn run_command<W: World, O: Sink, E: Sink>(
     alloc: Global,
     world: W,

@@ -3,10 +3,10 @@
 ghost use Rattle.std.specs.Prelude.{◌≡◌, ◌≢◌, ◌⊎◌, ◌+◌, ◌-◌, ◌^◌, ◌<◌, IfOk, IfErr, MatchResult};
 ghost use Rattle.web.specs.Connections.{Connect};
 ghost use Rattle.web.specs.Serving.{AnswersFrom};
-ghost use Rattle.cli.specs.Outputs.{CanFail};
-ghost use Rattle.cli.specs.Outcomes.{Prints, IsServed, IsUnbound};
+ghost use Rattle.cli.specs.Outputs.{CanFail, both_failures};
+ghost use Rattle.cli.specs.Outcomes.{Prints, IsServed, IsUnbound, ServesBehind};
 ghost use Rattle.cli.specs.Inside.Outcomes.{IsCutOff, Serves};
-ghost use Rattle.cli.specs.Databases.{ComesFrom, TakesTo};
+ghost use Rattle.cli.specs.Databases.{ComesFrom, CutsOff, TakesTo};
 
 use crate::outputs::Outputs;
 use crate::status::Status;
@@ -89,6 +89,9 @@ fn serve_bound<S: Alter, D: Door, O: Sink, E: Sink>(
 
     // Where no port is bound nothing is done at the desk.
     ensures unbound { IfErr bound (λ _. desk.new ≡ desk.old) }
+
+    // Nobody is served before the line of the port is out.
+    ensures cut { both_failures outputs.new ≡ both_failures outputs.old + 1 → IfOk bound (λ door. ServesBehind (AnswersFrom S.Store) (D.peers door) serving.port serving.count desk.old desk.new outputs.old.out.written outputs.new.out.written) }
 {
     match bound {
         Ok(mut door) => serve_at(alloc, desk, &mut door, serving, &mut outputs.out),
@@ -110,6 +113,7 @@ pub(crate) fn do_at<S: Alter, P: Ports, O: Sink, E: Sink>(
     requires { CanFail outputs.old }
     ensures printed { Prints (ComesFrom S.Store (P.state ports) task desk.old desk.new) outputs.old outputs.new result }
     ensures taken { TakesTo S.Store (P.state ports) task desk.old desk.new }
+    ensures cut { CutsOff S.Store (P.state ports) outputs.old outputs.new task desk.old desk.new }
 {
     match task {
         Task::Ask(asked) => {

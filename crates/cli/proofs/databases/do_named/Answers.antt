@@ -1,5 +1,6 @@
 use Rattle.std.proofs.Common.{◌≡◌, inr, refl, sym, subst}
 use Rattle.cli.proofs.Common.{state, HasNone, DoesOver, new_database}
+use Rattle.cli.proofs.Opened.{cuts_named}
 use Rattle.cli.proofs.Writers.{cut_printed, named_first, prints_more, printed_new}
 use Rattle.cli.proofs.databases.do_named.Goals as goal
 
@@ -20,6 +21,12 @@ returns-in_default-clause-printed g c = cut_printed (new_database c.args.name.no
 
 pub returns-in_default-clause-left : goal.returns-in_default-clause-left
 returns-in_default-clause-left g c = inr (refl, λ clean up. (up, refl, refl))
+
+pub returns-in_default-clause-cut : goal.returns-in_default-clause-cut
+returns-in_default-clause-cut g c = inr (λ clean up. (up, refl, refl))
+
+pub returns-clause-cut : goal.returns-clause-cut
+returns-clause-cut g c = cuts_named g.S.Store (g.P.Ports.state c.args.ports) (new_database c.args.name.now) c.args.outputs.now c.print_new.new.self c.do_over-2.new.outputs c.in-Ok.ensures.ok c.args.task c.args.connection c.do_over-2.result.1 c.do_over-2.ensures.cut
 
 pub returns-clause-named : goal.returns-clause-named
 returns-clause-named g c = λ _. named_first c.args.name.now _ (c.do_over-2.result.1 ≡ c.args.connection) c.args.outputs.now c.print_new.new.self c.do_over-2.new.outputs _ c.in-Ok.ensures.ok c.do_over-2.ensures.printed

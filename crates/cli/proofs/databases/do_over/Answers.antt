@@ -1,5 +1,5 @@
 use Rattle.std.proofs.Common.{refl, sym, subst, arith, inl, inr}
-use Rattle.cli.proofs.Common.{Held, state, DeskState, ComesFrom, DoesOver, IsDone, TakesTo}
+use Rattle.cli.proofs.Common.{Held, state, DeskState, ComesFrom, CutsOff, DoesOver, IsDone, TakesTo}
 use Rattle.cli.proofs.Opened.{found_for, was_clean, why_unopened}
 use Rattle.cli.proofs.Writers.{refused_ends, prints_more}
 use Rattle.cli.proofs.databases.do_over.Given as given
@@ -40,3 +40,9 @@ returns-in-Err-clause-printed g c =
 
 pub returns-in-Err-clause-left : goal.returns-in-Err-clause-left
 returns-in-Err-clause-left g c = inr (refused_ends c.in-Err.refusal _ _ _ c.refuse.ensures, c.in-Err.ensures.unopened.kept)
+
+pub returns-in-Ok-clause-cut : goal.returns-in-Ok-clause-cut
+returns-in-Ok-clause-cut g c = inl (did g c (CutsOff g.S.Store (g.P.Ports.state c.args.ports) c.args.outputs.now c.do_at-status.new.outputs c.args.task) c.do_at-status.ensures.cut)
+
+pub returns-in-Err-clause-cut : goal.returns-in-Err-clause-cut
+returns-in-Err-clause-cut g c = inr c.in-Err.ensures.unopened.kept

@@ -1,5 +1,5 @@
 use Rattle.cli.proofs.Common.{file_state, over_files}
-use Rattle.cli.proofs.Opened.{left_within, of_file, tells_within}
+use Rattle.cli.proofs.Opened.{cuts_within, left_within, of_file, tells_within}
 use Rattle.cli.proofs.Writers.{prints_more}
 use Rattle.cli.proofs.named.do_on.Goals as goal
 
@@ -17,11 +17,12 @@ returns-in-Ok g c =
         plain = c.in-Ok.ensures.plain;
         fresh = c.in-Ok.ensures.fresh;
         of_file = of_file _ c.in-Ok.connection (file_state did.0) c.in-Ok.ensures.found c.in-Ok.ensures.opened;
-        left = left_within over_files lent ports c.in-Ok.ensures.ports c.args.task _ c.in-Ok.connection did.0 did.3;
-        closing = did.4;
+        left = left_within over_files lent ports c.in-Ok.ensures.ports c.args.task _ c.in-Ok.connection did.0 did.4;
+        closing = did.5;
       };
       printed = prints_more _ _ (λ o is. tells_within over_files lent ports c.in-Ok.ensures.ports c.args.database.now c.args.task c.in-Ok.connection did.0 o is) _ _ _ did.1;
       named = did.2;
+      cut = cuts_within over_files lent ports c.in-Ok.ensures.ports c.args.outputs.now c.do_and_close-status.new.outputs c.args.task c.in-Ok.connection did.0 did.3;
     }
 
 pub returns-in-Err : goal.returns-in-Err

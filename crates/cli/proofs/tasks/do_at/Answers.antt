@@ -1,7 +1,7 @@
-use Rattle.std.proofs.Common.{◌≡◌, ◌∙◌, ap, inl, inr, rules, sym, ℕ, List, [], Result, Ok, Err, IfOk, IfErr, MatchResult}
-use Rattle.cli.proofs.Common.{Visit, MessageText, IsPeer, Peer, PortState, Connect, AnswersFrom, gets_at, ComesFrom, IsServed, IsUnbound, Outcome, ServesAt, of_answer, printed_reply, prints}
+use Rattle.std.proofs.Common.{◌≡◌, ◌∙◌, ap, inl, inr, rules, sym, ℕ, List, [], Option, Result, Ok, Err, IfOk, IfErr, MatchResult}
+use Rattle.cli.proofs.Common.{Visit, MessageText, IsPeer, Peer, PortState, Connect, AnswersFrom, gets_at, ComesFrom, IsServed, IsUnbound, Outcome, ServesAt, ServesBehind, of_answer, printed_reply, prints}
 use Rattle.cli.specs.declared.tasks.Task.TheVariants as task
-use Rattle.cli.proofs.Opened.{came_within}
+use Rattle.cli.proofs.Opened.{behind_within, came_within}
 use Rattle.cli.proofs.Writers.{prints_more}
 use Rattle.cli.proofs.tasks.do_at.Goals as goal
 
@@ -36,6 +36,11 @@ module _ {A E D : Type 0} (step : D → MessageText → List ℕ → D → Type 
   takes (Ok a) of served none = (served.0, came_within step (peers a) at.peers of before after served.0 served.1)
   takes (Err e) of served none = ([], none)
 
+  cuts : (bound : Result A E) (port count : ℕ) (w0 w : Option (List ℕ)) (Failed : Type 0) → IfOk bound (λ a. (n : ℕ) → IsPeer (peers a n) (at.peers n))
+      → (Failed → IfOk bound (λ a. ServesBehind step (peers a) port count before after w0 w)) → IfErr bound (λ _. after ≡ before) → Failed → ServesBehind step at.peers port count before after w0 w
+  cuts (Ok a) port count w0 w Failed of cut none failed = behind_within step (peers a) at.peers of port count before after w0 w (cut failed)
+  cuts (Err e) port count w0 w Failed of cut none failed = inl none
+
 pub returns-clause-printed : goal.returns-clause-printed
 returns-clause-printed g c =
     rw c.in-Serve.is
@@ -45,3 +50,14 @@ pub returns-clause-taken : goal.returns-clause-taken
 returns-clause-taken g c =
     rw c.in-Serve.is
     (takes (AnswersFrom g.S.Store) (g.P.Ports.state c.args.ports c.in-Serve.serving.port) g.P.Door.Door.peers _ _ c.bind-bound.result c.bind-bound.ensures.bound c.serve_bound.ensures.served c.serve_bound.ensures.unbound)
+
+pub returns-in-Ok-clause-cut : goal.returns-in-Ok-clause-cut
+returns-in-Ok-clause-cut g c = rw c.in-Ask.is tt
+
+pub returns-in-Ask-clause-cut : goal.returns-in-Ask-clause-cut
+returns-in-Ask-clause-cut g c = rw c.in-Ask.is tt
+
+pub returns-clause-cut : goal.returns-clause-cut
+returns-clause-cut g c =
+    rw c.in-Serve.is
+    (cuts (AnswersFrom g.S.Store) (g.P.Ports.state c.args.ports c.in-Serve.serving.port) g.P.Door.Door.peers _ _ c.bind-bound.result _ _ _ _ _ c.bind-bound.ensures.bound c.serve_bound.ensures.cut c.serve_bound.ensures.unbound)

@@ -1,6 +1,6 @@
 use Rattle.std.proofs.Common.{ap, rules, refl, ◌∙◌}
-use Rattle.cli.proofs.Writers.{err_printed, ok_printed, served_printed, prints_more}
-use Rattle.cli.proofs.Common.{AnswersFrom, IsServed, IsUnbound, prints_err, Failure}
+use Rattle.cli.proofs.Writers.{err_printed, if_ok, ok_printed, served_cut, served_printed, prints_more}
+use Rattle.cli.proofs.Common.{AnswersFrom, IsServed, IsUnbound, ServesBehind, prints_err, Failure}
 use Rattle.cli.proofs.tasks.serve_bound.Goals as goal
 
 pub returns-in-Ok-clause-printed : goal.returns-in-Ok-clause-printed
@@ -25,3 +25,12 @@ returns-in-Err-clause-served g c = search rules depth 3
 
 pub returns-in-Err-clause-unbound : goal.returns-in-Err-clause-unbound
 returns-in-Err-clause-unbound g c = search rules depth 3
+
+pub returns-in-Ok-clause-cut : goal.returns-in-Ok-clause-cut
+returns-in-Ok-clause-cut g c =
+    rw (← c.outputs.view_is) λ failed.
+    if_ok (λ door. ServesBehind (AnswersFrom g.S.Store) (g.D.Door.peers door) c.args.serving.port c.args.serving.count _ _ _ _) c.args.bound c.in-Ok.door c.in-Ok.is
+    (served_cut (AnswersFrom g.S.Store) _ _ _ c.args.serving.port c.args.serving.count _ _ _ _ _ c.serve_at.ensures.cut failed)
+
+pub returns-in-Err-clause-cut : goal.returns-in-Err-clause-cut
+returns-in-Err-clause-cut g c = λ failed. search rules depth 3
