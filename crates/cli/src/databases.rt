@@ -11,7 +11,7 @@ ghost use Rattle.cli.specs.Databases.{CutsOver, DoesOver, PrintsOver, LeftBy, Is
 use crate::opening::{Closing, close_file};
 use crate::outputs::Outputs;
 use crate::status::Status;
-use crate::tasks::{Task, do_at};
+use crate::tasks::{Task, perform};
 use desk::Desk;
 use host::Ports;
 use sqlite::{Alter, Connection, FileStore};
@@ -24,7 +24,7 @@ use web::Sink;
 ///
 /// It takes any store, and so do those who hold the desk: a desk over a store of files by name takes the prover a minute in each function
 /// that holds one. A task that is not done is handed to `drop`, since each kind of request would else be a path here.
-fn do_over<S: Alter + Drop, P: Ports, O: Sink, E: Sink>(
+fn open_and_perform<S: Alter + Drop, P: Ports, O: Sink, E: Sink>(
     alloc: Global,
     ports: P,
     connection: Connection<S>,
@@ -41,7 +41,7 @@ fn do_over<S: Alter + Drop, P: Ports, O: Sink, E: Sink>(
     match Desk::open(alloc, connection) {
         Ok(mut desk) => {
             desk.keeps();
-            let status = do_at(alloc, ports, &mut desk, task, outputs);
+            let status = perform(alloc, ports, &mut desk, task, outputs);
             desk.keeps();
             (status, desk.into_connection())
         }
@@ -54,7 +54,7 @@ fn do_over<S: Alter + Drop, P: Ports, O: Sink, E: Sink>(
 
 /// Does the same at the office of a database with this name, which is printed first where none of the tables is there yet. Where that
 /// cannot be printed, nothing is done.
-fn do_named<S: Alter + Drop, P: Ports, O: Sink, E: Sink>(
+fn announce_and_perform<S: Alter + Drop, P: Ports, O: Sink, E: Sink>(
     alloc: Global,
     ports: P,
     name: &str,
@@ -69,17 +69,17 @@ fn do_named<S: Alter + Drop, P: Ports, O: Sink, E: Sink>(
     ensures cut { CutsOver S.Store (P.state ports) outputs.old outputs.new task connection result.1 }
 {
     if !has_none(connection.schema()) {
-        return do_over(alloc, ports, connection, task, outputs);
+        return open_and_perform(alloc, ports, connection, task, outputs);
     }
     let Ok(()) = outputs.print_new(name) else {
         drop((ports, task));
         return (Status::Failure, connection);
     };
-    do_over(alloc, ports, connection, task, outputs)
+    open_and_perform(alloc, ports, connection, task, outputs)
 }
 
 /// Does the same at the office of a database file, which is closed then: its log is copied into it.
-pub(crate) fn do_and_close<D: Disk + Drop, P: Ports, O: Sink, E: Sink>(
+pub(crate) fn perform_and_close<D: Disk + Drop, P: Ports, O: Sink, E: Sink>(
     alloc: Global,
     ports: P,
     name: &str,
@@ -95,6 +95,6 @@ pub(crate) fn do_and_close<D: Disk + Drop, P: Ports, O: Sink, E: Sink>(
         × CutsOver over_files (P.state ports) outputs.old outputs.new task connection last
         × LeftBy over_files (P.state ports) task result.0 connection last × IsClosing last result.1 }
 {
-    let (status, connection) = do_named(alloc, ports, name, connection, task, outputs);
+    let (status, connection) = announce_and_perform(alloc, ports, name, connection, task, outputs);
     (status, close_file(connection))
 }

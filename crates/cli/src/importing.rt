@@ -5,7 +5,7 @@ ghost use Rattle.cli.specs.Databases.{AskedAt};
 ghost use Rattle.cli.specs.Imports.{IsImportOf, IsImportOfFile};
 
 use crate::files::read_file;
-use crate::named::do_on;
+use crate::named::perform_on_file;
 use crate::opening::Closing;
 use crate::outputs::Outputs;
 use crate::status::Status;
@@ -43,7 +43,7 @@ pub(crate) fn import_file<W: World>(
     import(alloc, kind, id, bytes)
 }
 
-/// Asks a request of the office of a database file, as `do_on` does, or prints why it was not made.
+/// Asks a request of the office of a database file, as `perform_on_file` does, or prints why it was not made.
 pub(crate) fn ask_made<W: World, O: Sink, E: Sink>(
     alloc: Global,
     world: W,
@@ -55,7 +55,7 @@ pub(crate) fn ask_made<W: World, O: Sink, E: Sink>(
     ensures { AskedAt (W.state world) database.now made result.1 outputs.old outputs.new result.0 }
 {
     match made {
-        Ok(asked) => do_on(alloc, world, database, Task::Ask(asked), outputs),
+        Ok(asked) => perform_on_file(alloc, world, database, Task::Ask(asked), outputs),
         Err(refusal) => {
             drop(world);
             (outputs.refuse(refusal), None)

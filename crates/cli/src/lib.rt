@@ -29,6 +29,6 @@ mod texts;
 pub use laws::{printed_law, task_law};
 pub use opening::Closing;
 pub use outputs::Outputs;
-pub use program::{do_all, serve_anew, start};
+pub use program::{run_program, serve_anew, start};
 pub use run::run_command;
 pub use status::Status;

@@ -3,7 +3,7 @@
 ghost use Rattle.cli.specs.Outputs.{CanFail};
 ghost use Rattle.cli.specs.Databases.{DoneAt};
 
-use crate::databases::do_and_close;
+use crate::databases::perform_and_close;
 use crate::opening::{Closing, open_file};
 use crate::outputs::Outputs;
 use crate::status::Status;
@@ -17,7 +17,7 @@ use web::Sink;
 ///
 /// A closing that fails changes neither what was printed nor the status: what was changed is in the log next to the file, where
 /// the next opening finds it.
-pub(crate) fn do_on<W: World, O: Sink, E: Sink>(
+pub(crate) fn perform_on_file<W: World, O: Sink, E: Sink>(
     alloc: Global,
     world: W,
     database: &str,
@@ -29,7 +29,9 @@ pub(crate) fn do_on<W: World, O: Sink, E: Sink>(
 {
     match open_file(world, database) {
         Ok((connection, ports)) => {
-            let (status, closing) = do_and_close(alloc, ports, database, connection, task, outputs);
+            let (status, closing) = perform_and_close(
+                alloc, ports, database, connection, task, outputs,
+            );
             (status, Some(closing))
         }
         Err(refusal) => {

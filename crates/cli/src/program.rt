@@ -61,7 +61,7 @@ fn print_unread<O: Sink, E: Sink>(error: io::Error, outputs: &mut Outputs<O, E>)
 /// other word, serves the reader's stream to standard output, as `serve_anew` does; where they cannot be read, prints why, as
 /// `print_unread` does. Gives the status of the program, which is a failure for a stream that was not served to its end. What came of
 /// closing a database file is given back next to it.
-pub fn do_all<W: World, R: Source, O: Sink, E: Sink>(
+pub fn run_program<W: World, R: Source, O: Sink, E: Sink>(
     alloc: Global,
     world: W,
     reader: &mut R,
@@ -88,7 +88,7 @@ pub fn do_all<W: World, R: Source, O: Sink, E: Sink>(
     }
 }
 
-/// Does all that the program does with what a host lends it, as `do_all` does, gives the streams back, and returns its status. The host is
+/// Does all that the program does with what a host lends it, as `run_program` does, gives the streams back, and returns its status. The host is
 /// the machine.
 pub fn start<H: Host>(alloc: Global, mut host: H) -> ExitCode
     ensures { IsStarted H.World.File H.World.File.Disk H.World.state H.In.left (both_of H.Out.written H.Out.failures H.Err.written H.Err.failures)
@@ -96,7 +96,7 @@ pub fn start<H: Host>(alloc: Global, mut host: H) -> ExitCode
 {
     let (world, mut input, out, err) = host.lend();
     let mut outputs = Outputs::new(out, err);
-    let (status, _closing) = do_all(alloc, world, &mut input, &mut outputs);
+    let (status, _closing) = run_program(alloc, world, &mut input, &mut outputs);
     let (out, err) = outputs.into_parts();
     host.take(input, out, err);
     ExitCode::from(status.number())

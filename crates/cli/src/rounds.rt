@@ -30,7 +30,7 @@ pub(crate) enum RoundTask<'a> {
 }
 
 /// Does this with the round that was read of a file, or gives the refusal of the reading.
-fn do_read(
+fn run_on_round(
     alloc: Global,
     way: RoundTask<'_>,
     read: Result<Vec<u8>, Refusal>,
@@ -49,7 +49,7 @@ fn do_read(
 }
 
 /// Does this with the round of a file, and prints what comes of it.
-pub(crate) fn do_file<W: World, O: Sink, E: Sink>(
+pub(crate) fn run_on_round_file<W: World, O: Sink, E: Sink>(
     alloc: Global,
     world: &W,
     way: RoundTask<'_>,
@@ -59,6 +59,6 @@ pub(crate) fn do_file<W: World, O: Sink, E: Sink>(
     requires { CanFail outputs.old }
     ensures { Prints (OnFile ((W.state world.now).holds file.now) (ComesBy way.entry)) outputs.old outputs.new result }
 {
-    let came = do_read(alloc, way, read_file(world, file, MAX_BYTES));
+    let came = run_on_round(alloc, way, read_file(world, file, MAX_BYTES));
     print_round(came, outputs)
 }

@@ -5,10 +5,10 @@ ghost use Rattle.cli.specs.Outputs.{CanFail};
 ghost use Rattle.cli.specs.Databases.{LineAt, WordsAt};
 
 use crate::importing::{ask_made, import_file};
-use crate::named::do_on;
+use crate::named::perform_on_file;
 use crate::opening::Closing;
 use crate::outputs::Outputs;
-use crate::rounds::{RoundTask, do_file};
+use crate::rounds::{RoundTask, run_on_round_file};
 use crate::status::Status;
 use crate::tasks::{Serving, Task};
 use args::{Line, LineFault, command};
@@ -19,7 +19,7 @@ use web::Sink;
 
 /// Does a line, and prints what comes of it. A file is read first, then a database is opened, then a port is bound, and then the
 /// request is judged.
-fn do_line<W: World, O: Sink, E: Sink>(
+fn run_line<W: World, O: Sink, E: Sink>(
     alloc: Global,
     world: W,
     line: Line,
@@ -33,7 +33,7 @@ fn do_line<W: World, O: Sink, E: Sink>(
             database,
             port,
             count,
-        } => do_on(
+        } => perform_on_file(
             alloc,
             world,
             &database,
@@ -51,13 +51,13 @@ fn do_line<W: World, O: Sink, E: Sink>(
         }
         Line::OpenRound { database, aim } => {
             let asked = Request::Plain(Plain::OpenRound { aim });
-            do_on(alloc, world, &database, Task::Ask(asked), outputs)
+            perform_on_file(alloc, world, &database, Task::Ask(asked), outputs)
         }
         Line::ReopenRound(database) => {
             let asked = Request::Plain(Plain::ReopenRound);
-            do_on(alloc, world, &database, Task::Ask(asked), outputs)
+            perform_on_file(alloc, world, &database, Task::Ask(asked), outputs)
         }
-        Line::CloseRound(database) => do_on(
+        Line::CloseRound(database) => perform_on_file(
             alloc,
             world,
             &database,
@@ -70,22 +70,22 @@ fn do_line<W: World, O: Sink, E: Sink>(
             round,
         } => {
             let asked = Request::Report { kind, round };
-            do_on(alloc, world, &database, Task::Ask(asked), outputs)
+            perform_on_file(alloc, world, &database, Task::Ask(asked), outputs)
         }
         Line::Solve(file) => (
-            do_file(alloc, &world, RoundTask::Solve, &file, outputs),
+            run_on_round_file(alloc, &world, RoundTask::Solve, &file, outputs),
             None,
         ),
         Line::Check(file) => (
-            do_file(alloc, &world, RoundTask::Check, &file, outputs),
+            run_on_round_file(alloc, &world, RoundTask::Check, &file, outputs),
             None,
         ),
         Line::Publish(file) => (
-            do_file(alloc, &world, RoundTask::Publish, &file, outputs),
+            run_on_round_file(alloc, &world, RoundTask::Publish, &file, outputs),
             None,
         ),
         Line::CheckOwn { file, own } => (
-            do_file(alloc, &world, RoundTask::CheckOwn(&own), &file, outputs),
+            run_on_round_file(alloc, &world, RoundTask::CheckOwn(&own), &file, outputs),
             None,
         ),
     }
@@ -107,7 +107,7 @@ pub fn run_command<W: World, O: Sink, E: Sink>(
     ensures file { WordsAt (W.state world) (map string_bytes words.now) result.1 outputs.old outputs.new result.0 }
 {
     match command(alloc, words) {
-        Ok(line) => do_line(alloc, world, line, outputs),
+        Ok(line) => run_line(alloc, world, line, outputs),
         Err(LineFault::Memory) => (outputs.refuse(Refusal::Memory), None),
         Err(LineFault::Help(text)) => (outputs.print(text.as_bytes(), Status::Success), None),
         Err(LineFault::Version(text)) => (outputs.print(text.as_bytes(), Status::Success), None),

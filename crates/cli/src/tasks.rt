@@ -103,7 +103,7 @@ fn serve_bound<S: Alter, D: Door, O: Sink, E: Sink>(
 }
 
 /// Does a task at a desk, and prints what comes of it.
-pub(crate) fn do_at<S: Alter, P: Ports, O: Sink, E: Sink>(
+pub(crate) fn perform<S: Alter, P: Ports, O: Sink, E: Sink>(
     alloc: Global,
     ports: P,
     desk: &mut Desk<S>,

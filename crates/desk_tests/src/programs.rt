@@ -4,7 +4,7 @@
 
 use crate::files::file_of;
 use crate::in_memory::{InMemory, Named, Noted, reader};
-use cli::{Outputs, do_all};
+use cli::{Outputs, run_program};
 use sqlite::Files;
 use sqlite_disk::{Disk, Memory};
 use std::alloc::Global;
@@ -178,7 +178,7 @@ fn run<D: Disk + Drop>(
     let mut input = Watched::new(reader(input));
     let out = Watched::new(Noted(out, is_shut));
     let mut outputs = Outputs::new(out, Watched::new(Noted(err, is_shut)));
-    match do_all(alloc, world, &mut input, &mut outputs) {
+    match run_program(alloc, world, &mut input, &mut outputs) {
         (status, Some(Ok(files))) => (status.number(), Some(files)),
         (status, Some(Err((_error, left)))) => {
             drop(left);

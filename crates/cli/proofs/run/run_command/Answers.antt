@@ -5,7 +5,7 @@ use Rattle.cli.proofs.Writers.{prints_more}
 use Rattle.cli.proofs.run.run_command.Goals as goal
 
 pub returns-in-Ok : goal.returns-in-Ok
-returns-in-Ok g c = record { file = (Ok c.in-Ok.line, c.in-Ok.ensures, c.do_line.ensures) }
+returns-in-Ok g c = record { file = (Ok c.in-Ok.line, c.in-Ok.ensures, c.run_line.ensures) }
 
 pub returns-in-Err-Memory : goal.returns-in-Err-Memory
 returns-in-Err-Memory g c = record { file = (Err Memory, subst (λ (f : LineFault). IsAnswer (map string_bytes c.args.words.now) (Err f)) (search rules) c.in-Err-Memory.ensures, (refl, c.refuse.ensures)) }

@@ -1,11 +1,11 @@
 use Rattle.cli.proofs.Common.{file_state, over_files}
 use Rattle.cli.proofs.Opened.{cuts_within, left_within, of_file, tells_within}
 use Rattle.cli.proofs.Writers.{prints_more}
-use Rattle.cli.proofs.named.do_on.Goals as goal
+use Rattle.cli.proofs.named.perform_on_file.Goals as goal
 
 pub returns-in-Ok : goal.returns-in-Ok
 returns-in-Ok g c =
-    let did = c.do_and_close-status.ensures in
+    let did = c.perform_and_close-status.ensures in
     let lent = g.W.Ports.Ports.state c.in-Ok.ports in
     let ports = (g.W.World.state c.args.world).ports in
     record {
@@ -22,7 +22,7 @@ returns-in-Ok g c =
       };
       printed = prints_more _ _ (λ o is. tells_within over_files lent ports c.in-Ok.ensures.ports c.args.database.now c.args.task c.in-Ok.connection did.0 o is) _ _ _ did.1;
       named = did.2;
-      cut = cuts_within over_files lent ports c.in-Ok.ensures.ports c.args.outputs.now c.do_and_close-status.new.outputs c.args.task c.in-Ok.connection did.0 did.3;
+      cut = cuts_within over_files lent ports c.in-Ok.ensures.ports c.args.outputs.now c.perform_and_close-status.new.outputs c.args.task c.in-Ok.connection did.0 did.3;
     }
 
 pub returns-in-Err : goal.returns-in-Err

@@ -3,7 +3,7 @@ use Rattle.cli.proofs.Common.{Visit, MessageText, IsPeer, Peer, PortState, Conne
 use Rattle.cli.specs.declared.tasks.Task.TheVariants as task
 use Rattle.cli.proofs.Opened.{behind_within, came_within}
 use Rattle.cli.proofs.Writers.{prints_more}
-use Rattle.cli.proofs.tasks.do_at.Goals as goal
+use Rattle.cli.proofs.tasks.perform.Goals as goal
 
 -- that it is what was printed is searched for, so that a body that prints something else is refused at it
 pub returns-in-Ok-clause-printed : goal.returns-in-Ok-clause-printed

@@ -1,7 +1,7 @@
 use Rattle.std.proofs.Common.{Global, List, Ok, String, arith, inr, map, refl, rules, string_bytes, subst}
 use Rattle.cli.specs.Databases.{WordsAt}
 use Rattle.std.proofs.lemmas.List.{length-map}
-use Rattle.cli.proofs.program.do_all.Goals as goal
+use Rattle.cli.proofs.program.run_program.Goals as goal
 
 -- the stream broke off
 pub returns : goal.returns

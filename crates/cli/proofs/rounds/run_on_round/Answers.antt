@@ -1,6 +1,6 @@
 use Rattle.std.proofs.Common.{ℕ, List, subst, rules}
 use Rattle.round_files.specs.Rounds.{IsChecked}
-use Rattle.cli.proofs.rounds.do_read.Goals as goal
+use Rattle.cli.proofs.rounds.run_on_round.Goals as goal
 
 pub returns-in-Solve : goal.returns-in-Solve
 returns-in-Solve c = search rules
