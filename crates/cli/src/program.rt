@@ -88,8 +88,8 @@ pub fn run_program<W: World, R: Source, O: Sink, E: Sink>(
     }
 }
 
-/// Does all that the program does with what a host lends it, as `run_program` does, gives the streams back, and returns its status. The host is
-/// the machine.
+/// Does all that the program does with what a host lends it, as `run_program` does, gives the streams back, and returns its status. The
+/// host is the machine.
 pub fn start<H: Host>(alloc: Global, mut host: H) -> ExitCode
     ensures { IsStarted H.World.File H.World.File.Disk H.World.state H.In.left (both_of H.Out.written H.Out.failures H.Err.written H.Err.failures)
         (H.lends host) (H.takes host) (exit_status result) }

@@ -31,7 +31,8 @@ pub use session::{join, read_preview, start_session};
 use solver::solve;
 use std::alloc::{AllocError, Global};
 
-/// Closes the open round with a matching of its instance that is best by its aim.
+/// Closes the open round with a matching of its instance that is best by its aim. An `Err` is out of memory, and leaves the office as it
+/// was.
 pub fn close(alloc: Global, office: &mut Office) -> Result<Done, AllocError>
     requires open { IsTrue (round_is_open office.old) }
     ensures made { IfOk result (λ done. Makes layers office.old request.Close done.reply office.new) }
@@ -47,7 +48,7 @@ pub fn close(alloc: Global, office: &mut Office) -> Result<Done, AllocError>
     office.close(&solved.matching)
 }
 
-/// Returns the instance of the open round, as a round text.
+/// Returns the instance of the open round, as a round text. An `Err` is out of memory.
 pub fn round_text(alloc: Global, office: &Office) -> Result<Reply, AllocError>
     requires open { IsTrue (round_is_open office.now) }
     ensures made { IfOk result (λ reply. Makes layers office.now request.RoundText reply office.now) }
@@ -57,7 +58,7 @@ pub fn round_text(alloc: Global, office: &Office) -> Result<Reply, AllocError>
     Ok(Reply::Text(Text::of(alloc, text.as_str())?))
 }
 
-/// Returns a report of a round.
+/// Returns a report of a round. An `Err` is `Memory`.
 pub fn report(
     alloc: Global,
     office: &Office,
@@ -90,7 +91,8 @@ fn refused_as(fault: ImportFault) -> Refusal
     }
 }
 
-/// Makes an import that is not stored yet: the requests of its text's records, all of them or none.
+/// Makes an import that is not stored yet: the requests of its text's records, all of them or none. An `Err` is `Memory`, or the first
+/// refusal of its text or of a record, and leaves the office as it was.
 pub fn import(
     alloc: Global,
     office: &mut Office,

@@ -50,7 +50,7 @@ fn plain_effect(alloc: Global, office: &Office, plain: &Plain) -> Result<Session
     }
 }
 
-/// Returns what a request makes of the session.
+/// Returns what a request makes of the session. An `Err` is out of memory.
 pub fn effect_of(
     alloc: Global,
     office: &Office,

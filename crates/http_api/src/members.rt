@@ -27,7 +27,7 @@ pub struct ProjectMembers<'v> {
     pub supervisor: &'v str,
 }
 
-/// Reads a body as JSON.
+/// Reads a body as JSON. `Json` where it is none, `Memory` where it runs out.
 pub fn read_json(alloc: Global, body: &[u8]) -> Result<Value, Refusal>
     ensures ok { IfOk result (λ value. json_of body.now ≡ Some (view value)) }
     ensures err { IfErr result (λ refusal.
@@ -194,7 +194,7 @@ fn choices_in(value: &Value) -> Option<&Vec<Value>>
     }
 }
 
-/// Returns the choices that stand alone.
+/// Returns the choices that stand alone. An `Err` is out of memory.
 pub fn choices_of(alloc: Global, value: &Value) -> Result<Option<Texts>, AllocError>
     ensures { IfOk result (λ choices. choices ≡ choices_of (view value.now)) }
 {

@@ -95,7 +95,7 @@ pub fn number_of(text: &str) -> Option<u32>
     text.parse::<u32>().ok()
 }
 
-/// Returns the request of an empty body. It allocates where it stores a code.
+/// Returns the request of an empty body. It allocates where it stores a code. An `Err` is out of memory.
 pub fn called(alloc: Global, call: Call, code: &str) -> Result<Request, AllocError>
     ensures ok { IfOk result (λ request. request ≡ called call code.now) }
     ensures memory { OnErr result (IsTrue (keeps_code call)) }

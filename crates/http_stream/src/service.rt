@@ -88,7 +88,8 @@ fn serve_next<D, H: Handler<D>, R: Source, W: Sink>(
     }
 }
 
-/// Serves the messages of a stream, as many as it may have.
+/// Serves the messages of a stream, as many as it may have. Fails where the reader or the writer fails, or where memory runs out before
+/// anything is read.
 pub fn serve_messages<D, H: Handler<D>, R: Source, W: Sink>(
     alloc: Global,
     handler: &H,

@@ -43,7 +43,7 @@ impl Model for Window {
 }
 
 impl Window {
-    /// Creates a window in which nothing stands.
+    /// Creates a window in which nothing stands. An `Err` is out of memory.
     pub fn new(alloc: Global) -> Result<Window, AllocError>
         ensures { IfOk result (λ window. window ≡ []) }
     {
@@ -130,7 +130,7 @@ impl Window {
         }
     }
 
-    /// Reads on until a whole message or the stream's end stands at the front.
+    /// Reads on until a whole message or the stream's end stands at the front. Fails where the reader does.
     pub fn read_next<R: Source>(&mut self, reader: &mut R) -> Result<Next, StreamFault>
         requires failures { R.failures reader.old < 2 ^ 64 - 1 }
         requires open { R.ended reader.old ≡ false }

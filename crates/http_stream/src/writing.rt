@@ -28,7 +28,7 @@ fn write_some<W: Sink>(writer: &mut W, bytes: &[u8]) -> Result<usize, StreamFaul
     }
 }
 
-/// Writes all of the bytes.
+/// Writes all of the bytes. Fails at the first write that fails.
 pub fn write_all<W: Sink>(writer: &mut W, bytes: &[u8]) -> Result<(), StreamFault>
     requires { W.failures writer.old < 2 ^ 64 - 1 }
     ensures ok { OnOk result (Appends (W.written writer.old) (W.written writer.new) bytes.now) }

@@ -119,7 +119,8 @@ fn requests_after(
     }
 }
 
-/// Reads an import text: a request for each record after the header, in their order.
+/// Reads an import text: a request for each record after the header, in their order. An `Err` is out of memory, a header that is not the
+/// kind's, or the first record with another number of fields.
 #[tactic(auto, unfolding(crate::specs::Requests::requests_of))]
 pub fn read_import(alloc: Global, kind: ImportKind, bytes: &[u8]) -> Result<Vec<Plain>, ImportFault>
     ensures read { IfOk result (λ requests. requests_of kind bytes.now ≡ Ok requests.items) }

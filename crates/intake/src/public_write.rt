@@ -49,7 +49,7 @@ fn write_told(
     Ok(())
 }
 
-/// Writes what is posted by an aim, with the codes of who is in it: the one text of these parts.
+/// Writes what is posted by an aim, with the codes of who is in it: the one text of these parts. An `Err` is out of memory.
 pub fn write_public(
     alloc: Global,
     aim: Aim,

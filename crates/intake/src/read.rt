@@ -72,7 +72,7 @@ fn tells_student(line: &[u8]) -> bool
     *first == b'R'
 }
 
-/// Whether a text is public: a line of it begins with an R.
+/// Whether a text is public: a line of it begins with an R. An `Err` is out of memory.
 pub fn is_public(alloc: Global, text: &[u8]) -> Result<bool, AllocError>
     ensures { IfOk result (λ b. IsTrue b ↔ TellsStudents text.now) }
 {
@@ -85,7 +85,7 @@ pub fn is_public(alloc: Global, text: &[u8]) -> Result<bool, AllocError>
     Ok(false)
 }
 
-/// Returns the fields of a line: what stands between its commas.
+/// Returns the fields of a line: what stands between its commas. An `Err` is out of memory.
 pub fn line_fields<'a>(alloc: Global, line: &'a [u8]) -> Result<Vec<&'a [u8]>, AllocError>
     ensures { IfOk result (λ v. map (λ p. p.now) v.items ≡ slice_split (λ b. b == 44) line.now) }
 {

@@ -173,7 +173,8 @@ fn write_proof(
     Ok(())
 }
 
-/// Writes an instance and an aim, alone or with a matching and prices: the one text of these parts. Codes rise in each roll.
+/// Writes an instance and an aim, alone or with a matching and prices: the one text of these parts. Codes rise in each roll. An `Err` is
+/// out of memory.
 pub fn write_round(
     alloc: Global,
     instance: &Instance,

@@ -71,7 +71,7 @@ impl Office {
         }
     }
 
-    /// Returns the office of these rows, which may come in any order. `Unfit` where no office has them.
+    /// Returns the office of these rows, which may come in any order. `Unfit` where no office has them. `Memory` where it runs out.
     pub fn from_rows(alloc: Global, rows: Vec<Row>) -> Result<Office, RowsFault>
         ensures rows { IfOk result (λ office. AreRowsOf rows.items office) }
         ensures unfit { result ≡ Err RowsFault.Unfit → (o : State) → IsFit o → AreRowsOf rows.items o → ⊥ }
@@ -79,7 +79,7 @@ impl Office {
         Ok(Office::of(alloc, gather(alloc, &rows)?))
     }
 
-    /// Copies the office. Both share the entries until either changes.
+    /// Copies the office. Both share the entries until either changes. An `Err` is out of memory.
     pub fn copy(&self) -> Result<Self, AllocError>
         ensures same { IfOk result (λ copy. copy ≡ self.now) }
     {

@@ -19,7 +19,7 @@ fn flag(is_so: bool) -> Cell
 }
 
 impl Supervisor {
-    /// Returns the supervisor's row.
+    /// Returns the supervisor's row. An `Err` is out of memory.
     pub fn row(&self, alloc: Global) -> Result<Row, AllocError>
         ensures { IfOk result (λ row. row ≡ record { table = Table.Supervisor; cells = supervisor_cells self.now }) }
     {
@@ -31,7 +31,7 @@ impl Supervisor {
 }
 
 impl Project {
-    /// Returns the project's row.
+    /// Returns the project's row. An `Err` is out of memory.
     pub fn row(&self, alloc: Global) -> Result<Row, AllocError>
         ensures { IfOk result (λ row. row ≡ record { table = Table.Project; cells = project_cells self.now }) }
     {
@@ -44,7 +44,7 @@ impl Project {
 }
 
 impl Student {
-    /// Returns the student's row.
+    /// Returns the student's row. An `Err` is out of memory.
     pub fn row(&self, alloc: Global) -> Result<Row, AllocError>
         ensures { IfOk result (λ row. row ≡ record { table = Table.Student; cells = student_cells self.now }) }
     {
@@ -56,7 +56,7 @@ impl Student {
 }
 
 impl RoundAim {
-    /// Returns the row of the round's aim.
+    /// Returns the row of the round's aim. An `Err` is out of memory.
     pub fn row(&self, alloc: Global) -> Result<Row, AllocError>
         ensures { IfOk result (λ row. row ≡ record { table = Table.RoundAim; cells = aim_cells self.now }) }
     {
@@ -70,7 +70,7 @@ impl RoundAim {
 }
 
 impl Placement {
-    /// Returns the placement's row.
+    /// Returns the placement's row. An `Err` is out of memory.
     pub fn row(&self, alloc: Global) -> Result<Row, AllocError>
         ensures { IfOk result (λ row. row ≡ record { table = Table.Placement; cells = placement_cells self.now }) }
     {
@@ -87,7 +87,7 @@ impl Placement {
 }
 
 impl Import {
-    /// Returns the import's row. It shares the text.
+    /// Returns the import's row. It shares the text. An `Err` is out of memory.
     pub fn row(&self, alloc: Global) -> Result<Row, AllocError>
         ensures { IfOk result (λ row. row ≡ record { table = Table.Import; cells = import_cells self.now }) }
     {
@@ -99,7 +99,7 @@ impl Import {
     }
 }
 
-/// Returns the row of a round of this number.
+/// Returns the row of a round of this number. An `Err` is out of memory.
 pub fn round_row(alloc: Global, round: u32, is_open: bool) -> Result<Row, AllocError>
     ensures { IfOk result (λ row. row ≡ says.round_row round is_open) }
 {
@@ -107,7 +107,7 @@ pub fn round_row(alloc: Global, round: u32, is_open: bool) -> Result<Row, AllocE
     Ok(Row::of(Table::Round, cells))
 }
 
-/// Returns the row of the choice at a place of a student's list in a round.
+/// Returns the row of the choice at a place of a student's list in a round. An `Err` is out of memory.
 pub fn choice_row(
     alloc: Global,
     round: u32,
@@ -123,7 +123,7 @@ pub fn choice_row(
     Ok(Row::of(Table::Choice, cells))
 }
 
-/// Returns the rows of a student's list in a round.
+/// Returns the rows of a student's list in a round. An `Err` is out of memory.
 pub fn list_part(alloc: Global, round: u32, student: &str) -> Result<Part, AllocError>
     ensures { IfOk result (λ part. part ≡ says.list_part round student.now) }
 {
@@ -132,7 +132,7 @@ pub fn list_part(alloc: Global, round: u32, student: &str) -> Result<Part, Alloc
     Ok(Part::of(Group::List, cells))
 }
 
-/// Returns the rows of a round's placements.
+/// Returns the rows of a round's placements. An `Err` is out of memory.
 pub fn placed_part(alloc: Global, round: u32) -> Result<Part, AllocError>
     ensures { IfOk result (λ part. part ≡ says.placed_part round) }
 {

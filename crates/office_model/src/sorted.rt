@@ -123,7 +123,7 @@ impl<E: Entry> Entries<E> {
         }
     }
 
-    /// Entries whose keys rise.
+    /// Entries whose keys rise. An `Err` is out of memory.
     pub fn of(alloc: Global, entries: Vec<E>) -> Result<Self, AllocError>
     where
         E: Drop,
@@ -167,7 +167,7 @@ impl<E: Entry> Entries<E> {
         self.find(number, "")
     }
 
-    /// Puts an entry in its place, over one with its key. Entries that a copy shares are copied first.
+    /// Puts an entry in its place, over one with its key. Entries that a copy shares are copied first. An `Err` is out of memory.
     pub fn put(&mut self, entry: E) -> Result<(), AllocError>
     where
         E: Drop,
@@ -185,7 +185,7 @@ impl<E: Entry> Entries<E> {
         Ok(())
     }
 
-    /// Takes out the entry with the key, if there is one. Entries that a copy shares are copied first.
+    /// Takes out the entry with the key, if there is one. Entries that a copy shares are copied first. An `Err` is out of memory.
     pub fn take_out(&mut self, round: u32, code: &str) -> Result<(), AllocError>
     where
         E: Drop,
@@ -196,7 +196,8 @@ impl<E: Entry> Entries<E> {
         Ok(())
     }
 
-    /// Takes out the entry with the key, if there is one, and hands it over. Entries that a copy shares are copied first.
+    /// Takes out the entry with the key, if there is one, and hands it over. Entries that a copy shares are copied first. An `Err` is out
+    /// of memory.
     pub fn remove(&mut self, round: u32, code: &str) -> Result<Option<E>, AllocError>
     where
         E: Drop,

@@ -155,8 +155,8 @@ fn check_assigned(
     Ok(())
 }
 
-/// Checks what is posted of a student with the student's own list: that the project stands in it, and that at the prices
-/// neither going without nor another project of the list is worth more. Allocates nothing.
+/// Checks what is posted of a student with the student's own list: that the project stands in it, and that at the prices neither going
+/// without nor another project of the list is worth more. Allocates nothing. An `Err` is the first of these that does not hold.
 pub fn check_own(posted: &Posted, aim: Aim, student: usize, list: &[usize]) -> Result<(), OwnFault>
     requires known { IsKnown posted.now }
     requires prices { HasPrices posted.now }

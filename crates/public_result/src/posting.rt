@@ -41,7 +41,7 @@ fn projects_of(
 }
 
 /// Returns what is posted of a matching and its prices: all but the lists and the prices of the students. Where the prices
-/// prove the matching best, everybody's check and each student's own accept it.
+/// prove the matching best, everybody's check and each student's own accept it. An `Err` is out of memory.
 pub fn post(
     alloc: Global,
     instance: &Instance,

@@ -41,7 +41,8 @@ fn is_not_below(posted: &Posted, aim: Aim) -> bool
         && are_not_below_zero(aim, &posted.supervisor_prices)
 }
 
-/// Checks what everybody can check of a posted result, without any list. Allocates nothing.
+/// Checks what everybody can check of a posted result, without any list. Allocates nothing. An `Err` is the first condition that does not
+/// hold.
 pub fn check_public(posted: &Posted, aim: Aim) -> Result<(), PublicFault>
     ensures accepted { IsOk result ↔ IsCleared (order aim) posted.now }
     ensures failed { IfErr result (λ fault. IsFirstFailure (order aim) posted.now fault) }

@@ -65,7 +65,7 @@ fn replace_prices(
 }
 
 /// Returns what is published of a matching that prices prove best by an aim: it is posted with the greatest prices that the
-/// search finds, since they show least of the lists, or with these where not all accept those.
+/// search finds, since they show least of the lists, or with these where not all accept those. An `Err` is out of memory.
 pub fn publish(
     alloc: Global,
     instance: &Instance,

@@ -28,7 +28,7 @@ use students_report::{Whom, students};
 pub use text_report::instance_text;
 use text_report::text;
 
-/// Writes a report on a round that the office knows.
+/// Writes a report on a round that the office knows. An `Err` is the refusal of another round, or `Memory`.
 pub fn report(
     alloc: Global,
     office: &Office,

@@ -21,7 +21,7 @@ fn push_placement(out: &mut String, round: u32, placement: &Placement) -> Result
     Ok(())
 }
 
-/// Writes whom a round placed, in which projects and at which ranks.
+/// Writes whom a round placed, in which projects and at which ranks. An `Err` is out of memory.
 pub fn placements(alloc: Global, office: &Office, round: u32) -> Result<String, AllocError>
     ensures { IfOk result (λ text. string_bytes text ≡ placements_text office.now round) }
 {

@@ -133,7 +133,8 @@ fn push_supervisor(
     Ok(())
 }
 
-/// Writes what is reported of the places that the rounds up to this one took. The placements are counted in one pass.
+/// Writes what is reported of the places that the rounds up to this one took. The placements are counted in one pass. An `Err` is out of
+/// memory.
 pub fn by_supervisor(
     alloc: Global,
     office: &Office,

@@ -67,7 +67,8 @@ fn push_ranks(out: &mut String, office: &Office, round: u32) -> Result<(), Alloc
     Ok(())
 }
 
-/// Writes a round with its state, how many students have lists in it, are placed by it, and are placed at each rank.
+/// Writes a round with its state, how many students have lists in it, are placed by it, and are placed at each rank. An `Err` is out of
+/// memory.
 pub fn profile(alloc: Global, office: &Office, round: u32) -> Result<String, AllocError>
     ensures { IfOk result (λ text. string_bytes text ≡ profile_text office.now round) }
 {

@@ -52,7 +52,7 @@ fn is_named(office: &Office, whom: Whom, round: u32, student: &Student) -> bool
     }
 }
 
-/// Writes the students whom a report on a round names.
+/// Writes the students whom a report on a round names. An `Err` is out of memory.
 pub fn students(
     alloc: Global,
     office: &Office,

@@ -12,7 +12,7 @@ use office::Office;
 use spa::{Aim, Instance};
 use std::alloc::{AllocError, Global};
 
-/// Writes the text of an instance that a round of the office has, and of an aim.
+/// Writes the text of an instance that a round of the office has, and of an aim. An `Err` is out of memory.
 pub fn instance_text(
     alloc: Global,
     office: &Office,
@@ -27,7 +27,7 @@ pub fn instance_text(
     write_round(alloc, instance, aim, None)
 }
 
-/// Writes the text of a round, open or closed.
+/// Writes the text of a round, open or closed. An `Err` is out of memory.
 pub fn text(alloc: Global, office: &Office, round: u32) -> Result<String, AllocError>
     ensures { IfOk result (λ text. string_bytes text ≡ instance_text (aim_of office.now round) (instance_of_round office.now round)) }
 {

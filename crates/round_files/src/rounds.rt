@@ -53,7 +53,8 @@ impl From<RoundFault> for Trouble {
     }
 }
 
-/// Returns the round of a text with a matching and prices that prove it best by the text's aim.
+/// Returns the round of a text with a matching and prices that prove it best by the text's aim. An `Err` is a refusal, or the first bad
+/// line.
 pub fn solved(alloc: Global, text: &[u8]) -> Result<String, Trouble>
     ensures { IsSolved text.now result }
 {
@@ -80,7 +81,8 @@ fn checked_round(alloc: Global, text: &[u8]) -> Result<String, Trouble>
     }
 }
 
-/// Returns what everybody's check says of a public text, and of any other what the check of its matching and its prices does.
+/// Returns what everybody's check says of a public text, and of any other what the check of its matching and its prices does. An `Err` is
+/// a refusal, the first bad line, or the first condition that fails.
 pub fn checked(alloc: Global, text: &[u8]) -> Result<String, Trouble>
     ensures { IsChecked text.now result }
 {

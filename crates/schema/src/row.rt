@@ -81,7 +81,7 @@ impl Row {
         })
     }
 
-    /// Returns the row with its key, as a part of its table.
+    /// Returns the row with its key, as a part of its table. An `Err` is out of memory.
     pub fn key(&self, alloc: Global) -> Result<Part, AllocError>
         ensures { let row = self.now in IfOk result (λ part. part ≡ record { group = Key row.table; cells = key_in row.table row.cells }) }
     {

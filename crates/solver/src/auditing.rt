@@ -13,7 +13,7 @@ use std::alloc::{AllocError, Global};
 /// Says `Best` exactly where the matching is best by the aim, else `Better` with a matching whose total weight comes
 /// after, as the aim reads it.
 ///
-/// It solves the instance anew and compares.
+/// It solves the instance anew and compares. An `Err` is out of memory.
 pub fn audit(
     alloc: Global,
     instance: &Instance,

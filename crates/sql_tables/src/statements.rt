@@ -73,7 +73,7 @@ pub fn leave<S: Alter>(tx: &mut Transaction<'_, S>, group: Group, cells: &[Cell]
     Ok(())
 }
 
-/// Reads each row of the table, after its rowid.
+/// Reads each row of the table, after its rowid. An `Err` is out of memory, or a database error.
 pub fn read<S: Alter>(conn: &mut Connection<S>, table: Table) -> Result<Vec<Row>, TableFault>
     ensures rows { HasCleanDisk (state S.Store conn.new)
         → IfOk result (λ rows. Shows (table_at table) rows.items (state S.Store conn.old) (state S.Store conn.new)) }

@@ -57,7 +57,7 @@ fn all_renamed(alloc: Global, rows: Vec<Row>) -> Result<Vec<Row>, AllocError>
     Ok(all)
 }
 
-/// Returns what the rows of an edition are in the latest.
+/// Returns what the rows of an edition are in the latest. An `Err` is out of memory.
 pub fn migrated_rows(
     alloc: Global,
     edition: Edition,
@@ -126,7 +126,7 @@ fn renaming_changes(
     Ok(changes)
 }
 
-/// Returns the changes that bring the rows of an edition to the latest.
+/// Returns the changes that bring the rows of an edition to the latest. An `Err` is out of memory.
 pub fn migrating_changes(
     alloc: Global,
     edition: Edition,

@@ -184,7 +184,8 @@ fn office_from(alloc: Global, rows: Vec<Row>) -> Result<Office, StoreFault>
     Ok(Office::from_rows(alloc, rows)?)
 }
 
-/// Returns the office of the tables of an edition, where none is being written, and the changes that migrate them.
+/// Returns the office of the tables of an edition, where none is being written, and the changes that migrate them. `Damaged`: they stand
+/// for none.
 pub fn office_in<S: Alter>(
     alloc: Global,
     conn: &mut Connection<S>,

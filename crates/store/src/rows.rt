@@ -62,7 +62,7 @@ fn row_with(alloc: Global, table: Table, columns: &Columns) -> Result<Row, Store
     Ok(Row::of(table, cells))
 }
 
-/// Returns the rows with these columns.
+/// Returns the rows with these columns. `Damaged` where some are of no row of the table, `Memory` where it runs out.
 pub fn rows_with(alloc: Global, table: Table, all: &[Columns]) -> Result<Vec<Row>, StoreFault>
     ensures rows { IfOk result (λ rows. AreReadRows table all.now rows.items) }
     ensures damaged { result ≡ Err StoreFault.Damaged → (columns : Values) × Has all.now columns × IsNoRow table (drop 1 columns) }

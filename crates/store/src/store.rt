@@ -163,7 +163,7 @@ impl<S: Alter> Store<S> {
         Ok(office)
     }
 
-    /// Makes the changes in one transaction, which touches only the rows that they name.
+    /// Makes the changes in one transaction, which touches only the rows that they name. An `Err` is out of memory, or a database error.
     pub fn save(&mut self, changes: &[Change]) -> Result<(), StoreFault>
         ensures saved { HasCleanDisk (state S.Store self.new)
             → OnOk result (IsSaving changes.now (state S.Store self.old) (state S.Store self.new)) }

@@ -30,7 +30,7 @@ pub enum CheckFault {
 }
 
 /// Checks that the prices prove the matching best by an aim, whoever made them: that no matching has more pairs, and none
-/// with as many has a better profile. Allocates nothing.
+/// with as many has a better profile. Allocates nothing. An `Err` is the first of the five conditions that does not hold.
 pub fn check(
     instance: &Instance,
     aim: Aim,

@@ -50,7 +50,8 @@ impl<S: Alter> Handler<Desk<S>> for OfficeHandler {
     }
 }
 
-/// Answers the messages that come from a reader, each as soon as its bytes have come, up to a hundred.
+/// Answers the messages that come from a reader, each as soon as its bytes have come, up to a hundred. Fails where the reader or the
+/// writer fails, or where memory runs out before anything is read.
 pub fn serve_stream<S: Alter, R: Source, W: Sink>(
     alloc: Global,
     desk: &mut Desk<S>,

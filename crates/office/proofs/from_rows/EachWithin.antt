@@ -27,8 +27,8 @@ entry_at [] at h = absurd (omega arith)
 entry_at (x ∷ xs) zero h = (x, λ d. refl)
 entry_at (x ∷ xs) (suc n) h = entry_at xs n (omega arith)
 
--- What is known at a position where quotas are tested: it is past the last entry; or the entry there keeps its quota, and leaves the test to
--- those after it; or it does not, and decides it.
+-- What is known at a position where quotas are tested: it is past the last entry; or the entry there keeps its quota, and leaves the test
+-- to those after it; or it does not, and decides it.
 abbrev pub IsKnownAt : {E : Type 0} (quota placed : E → ℕ) (all : List E) (counts : ℕ → ℕ) (at : ℕ) → Type 0
 IsKnownAt {E} quota placed all counts at =
     (length all ≤ at) ⊎ ((e : E) × ((d : E) → get_or all at d ≡ e)

@@ -26,7 +26,7 @@ fn list_taken(
 }
 
 /// Returns the changes by which a student's list in a round gives way to new choices: first it goes, where there is one, and then the new
-/// choices are added.
+/// choices are added. An `Err` is out of memory.
 pub fn list_changes(
     alloc: Global,
     round: u32,
@@ -46,7 +46,7 @@ pub fn list_changes(
     Ok(changes)
 }
 
-/// Returns the changes by which a round of this number and with this aim opens.
+/// Returns the changes by which a round of this number and with this aim opens. An `Err` is out of memory.
 pub fn opening_changes(alloc: Global, round: u32, aim: Aim) -> Result<Vec<Change>, AllocError>
     ensures { IfOk result (λ changes. changes.items ≡ says.opening_changes round aim) }
 {
@@ -56,7 +56,7 @@ pub fn opening_changes(alloc: Global, round: u32, aim: Aim) -> Result<Vec<Change
     Ok(changes)
 }
 
-/// Returns the changes by which a round opens again, and its placements go.
+/// Returns the changes by which a round opens again, and its placements go. An `Err` is out of memory.
 pub fn reopening_changes(alloc: Global, round: u32) -> Result<Vec<Change>, AllocError>
     ensures { IfOk result (λ changes. changes.items ≡ says.reopening_changes round) }
 {

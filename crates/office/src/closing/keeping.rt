@@ -22,7 +22,7 @@ fn placed_at(round: u32, listed: &Listed, place: u8) -> Placement
     }
 }
 
-/// Returns the placements that places in the lists of a round make.
+/// Returns the placements that places in the lists of a round make. An `Err` is out of memory.
 pub fn placements_of(
     alloc: Global,
     round: u32,
@@ -42,7 +42,7 @@ pub fn placements_of(
     Ok(placed)
 }
 
-/// Returns the placements with these put after one another. They share the entries until the first is put.
+/// Returns the placements with these put after one another. They share the entries until the first is put. An `Err` is out of memory.
 pub fn placements_after(
     alloc: Global,
     placements: &Entries<Placement>,
@@ -58,7 +58,7 @@ pub fn placements_after(
 }
 
 /// Returns the changes of the tables where a round closes with these placements: the round's row is put first, and then
-/// the rows of the placements are added.
+/// the rows of the placements are added. An `Err` is out of memory.
 pub fn close_changes(
     alloc: Global,
     round: u32,

@@ -65,7 +65,7 @@ fn take_all(alloc: Global, rows: &[Row]) -> Result<PartialOffice, RowsFault>
     Ok(found)
 }
 
-/// Returns the office of these rows, which may come in any order. `Unfit` where no fit office has them.
+/// Returns the office of these rows, which may come in any order. `Unfit` where no fit office has them. `Memory` where it runs out.
 pub fn gather(alloc: Global, rows: &[Row]) -> Result<PartialOffice, RowsFault>
     ensures fit { IfOk result (λ draft. IsFit (drafted draft)) }
     ensures rows { IfOk result (λ draft. AreRowsOf rows.now (drafted draft)) }

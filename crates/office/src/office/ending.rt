@@ -33,7 +33,7 @@ impl Office {
     }
 
     /// Returns the instance of a round, open or closed: the supervisors and projects with what the rounds before it left of their
-    /// quotas, and the students with a list in it.
+    /// quotas, and the students with a list in it. An `Err` is out of memory.
     pub fn instance_of_round(&self, round: u32) -> Result<Instance, AllocError>
         ensures instance { IfOk result (λ instance. instance_of instance ≡ instance_of_round self.now round) }
     {
@@ -41,7 +41,7 @@ impl Office {
     }
 
     /// Returns the instance of the open round: the supervisors and projects with what is left of their quotas, and the students
-    /// with a list in it.
+    /// with a list in it. An `Err` is out of memory.
     pub fn instance(&self) -> Result<Instance, AllocError>
         requires open { IsTrue (round_is_open self.now) }
         ensures instance { IfOk result (λ instance. instance_of instance ≡ round_instance self.now) }

@@ -57,8 +57,9 @@ impl Office {
         }
     }
 
-    /// Makes an import of these rows, which are the requests of its text, and keeps it: all of them or none. One that is
-    /// stored already changes nothing and answers its own number of rows.
+    /// Makes an import of these rows, which are the requests of its text, and keeps it: all of them or none. One that is stored already
+    /// changes nothing and answers its own number of rows. An `Err` is the refusal of the first record that is refused, or `Memory`, and
+    /// leaves the office as it was.
     pub fn import(
         &mut self,
         id: Text,
