@@ -1,6 +1,6 @@
 -- Rows whose rowids rise are distinguished by them.
 use Rattle.std.proofs.Common.{is_eq}
-use Rattle.sql_tables.proofs.Common.{AllByRecursion, is_lt, and_parts, Row, value_cmp, rowid, IsAscending, is_int, value_cmp_total, all_has, all_from, IsKeyed, rises, have_ids, ◌≡◌, List, [], ◌∷◌, true, false, refl, ap, Ordering, Less, Equal, Greater}
+use Rattle.sql_tables.proofs.Common.{AllByRecursion, is_lt, and_parts, Row, value_cmp, rowid, IsAscending, is_int, value_cmp_total, all_has, all_from, IsKeyed, rises, have_ids, ◌≡◌, ◌⊎◌, inl, inr, cases_Bool, List, [], ◌∷◌, true, false, refl, ap, Ordering, Less, Equal, Greater}
 
 below : (o : Ordering) → is_lt o ≡ true → o ≡ Less
 below Less h = refl
@@ -32,5 +32,12 @@ each [] h = tt
 each (r ∷ rows) h = let parts = and_parts _ _ h in (parts.0, each rows parts.1)
 
 -- rows with rising integers as rowids are keyed
-pub keyed_if_rising : (rows : List Row) → have_ids rows ≡ true → rises rows ≡ true → IsKeyed rows
+keyed_if_rising : (rows : List Row) → have_ids rows ≡ true → rises rows ≡ true → IsKeyed rows
 keyed_if_rising rows ids up = record { ids = each rows ids; apart = all_apart rows (rising rows up) }
+
+-- what tests of rows tell: an id is missing, they do not rise, or they are keyed
+pub keyed_tells : (rows : List Row) → (have_ids rows ≡ false) ⊎ ((rises rows ≡ false) ⊎ IsKeyed rows)
+keyed_tells rows = elim (cases_Bool (have_ids rows)) [
+  | inl ids ↦ elim (cases_Bool (rises rows)) [ inl up ↦ inr (inr (keyed_if_rising rows ids up)) | inr not ↦ inr (inl not) ]
+  | inr none ↦ inl none
+]

@@ -66,7 +66,7 @@ fn have_ids(rows: &[Row]) -> bool
 }
 
 /// Whether the rowids are integers, and no two are one.
-#[tactic(auto, using(crate::proofs::RowidsRise::keyed_if_rising))]
+#[tactic(auto, using(crate::proofs::RowidsRise::keyed_tells))]
 fn are_keyed(rows: &[Row]) -> bool
     ensures right { IsTrue result → IsKeyed rows.now }
     ensures exact { result ≡ (have_ids rows.now && rises rows.now) }
