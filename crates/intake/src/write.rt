@@ -159,7 +159,6 @@ fn write_proof(
     ensures supervisors { OnOk result (All (λ v. length v ≡ COMPONENTS) prices.now.supervisors.items) }
 {
     let kind = Kind::Round;
-    instance.fit();
     write_pairs(out, instance, &matching.places)?;
     write_prices(out, kind, "U", instance.student_codes(), &prices.students)?;
     write_prices(out, kind, "Y", instance.project_codes(), &prices.projects)?;

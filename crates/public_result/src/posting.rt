@@ -9,7 +9,6 @@ ghost use Rattle.spa.specs.Matched.{HasPlaces};
 ghost use Rattle.verdict.specs.Verdict.{IsProvedBest};
 ghost use Rattle.public_result.specs.Posted.{AreContent, IsCleared, IsPostOf, chosen, assigned_at, with_lists};
 
-use crate::laws::accepted_law;
 use crate::posted::Posted;
 use spa::{Instance, Matching};
 use std::alloc::{AllocError, Global};
@@ -54,8 +53,6 @@ pub fn post(
     ensures accepted { IfOk result (λ t. (aim : Aim) → IsProvedBest (order aim) instance.now.shape matching.now.places.items prices
         → IsCleared (order aim) t × AreContent (order aim) t instance.now.shape.students) }
 {
-    accepted_law();
-    instance.fit();
     let supervisors = Vec::from_slice(alloc, instance.supervisors())?;
     let projects = Vec::from_slice(alloc, instance.projects())?;
     let students = projects_of(alloc, instance, matching)?;

@@ -6,7 +6,6 @@ ghost use Rattle.spa.specs.Order.{order};
 ghost use Rattle.spa.specs.Matching.{IsBest};
 ghost use Rattle.public_result.specs.Posted.{AreContent, IsCleared, IsFirstFailure, IsNotBelow, IsPlaced, assigned, with_lists};
 
-use crate::laws::posted_law;
 use crate::posted::Posted;
 use crate::quotas::{is_room_free, is_within};
 use crate::shape::{has_prices, is_known};
@@ -50,7 +49,6 @@ pub fn check_public(posted: &Posted, aim: Aim) -> Result<(), PublicFault>
     // A yes, and a yes of each student's own check, prove what is posted best for the lists of these checks.
     ensures best { OnOk result ((lists : List (List ℕ)) → AreContent (order aim) posted.now lists → IsBest aim (with_lists posted.now lists) (assigned posted.now)) }
 {
-    posted_law();
     if !is_placed(posted) {
         return Err(PublicFault::NotMatching);
     }

@@ -29,7 +29,6 @@ pub(crate) fn public_of(alloc: Global, parts: RoundParts) -> Result<String, Allo
         matching,
         prices,
     } = parts;
-    instance.fit();
     let posted = publish(alloc, &instance, aim, &matching, prices)?;
     write_public(
         alloc,

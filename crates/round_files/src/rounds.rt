@@ -59,7 +59,6 @@ pub fn solved(alloc: Global, text: &[u8]) -> Result<String, Trouble>
     ensures { IsSolved text.now result }
 {
     let parts = read_round(alloc, text)?;
-    parts.instance.fit();
     let solved = solve(alloc, &parts.instance, parts.aim)?;
     Ok(write_round(
         alloc,
@@ -125,7 +124,6 @@ pub(crate) fn failed(
     requires { IsFirstFailure (order parts.now.aim) parts.now.instance.shape parts.now.matching.places.items parts.now.prices fault }
     ensures { IfOk result (λ text. string_bytes text ≡ fault_text parts.now.instance fault) }
 {
-    parts.instance.fit();
     let mut text = String::new(alloc);
     match fault {
         CheckFault::NotMatching => text.push_str("fault 1\n")?,

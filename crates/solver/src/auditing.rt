@@ -7,7 +7,7 @@ ghost use Rattle.solver.specs.Audited.{IsAudit};
 
 use crate::outcome::Audit;
 use crate::solving::solve;
-use spa::{Aim, Instance, Matching, aim_law, order_law, precedes, total_weight};
+use spa::{Aim, Instance, Matching, precedes, total_weight};
 use std::alloc::{AllocError, Global};
 
 /// Says `Best` exactly where the matching is best by the aim, else `Better` with a matching whose total weight comes
@@ -23,8 +23,6 @@ pub fn audit(
     requires { IsMatched instance.now.shape matching.now.places.items }
     ensures { IfOk result (λ a. IsAudit aim instance.now.shape matching.now.places.items a) }
 {
-    aim_law(instance);
-    order_law();
     let solved = solve(alloc, instance, aim)?;
     let weight = total_weight(instance, matching);
     let best = total_weight(instance, &solved.matching);

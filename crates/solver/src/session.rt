@@ -14,7 +14,7 @@ ghost use Rattle.solver.specs.Inside.Kept.{IsNetworkKept};
 
 use crate::worths::admit_weighed;
 use network::{Admitted, Network};
-use spa::{Aim, Lex, RANKS, lex_law, order_law};
+use spa::{Aim, Lex, RANKS};
 use std::alloc::{AllocError, Global};
 use std::marker::Model;
 
@@ -26,8 +26,6 @@ fn best(network: &Network<Lex>)
     ensures best { (aim : Aim) → IsOf aim (shape_of network.now) network.now
         → IsBest aim (shape_of network.now) (pairs (shape_of network.now) network.now.places) }
 {
-    lex_law();
-    order_law();
     network.priced();
 }
 
@@ -128,7 +126,6 @@ impl Session {
     {
         let admitted = admit_weighed(self.aim, &mut self.network, &mut self.entries, list)?;
         self.students += 1;
-        lex_law();
         Ok(admitted)
     }
 

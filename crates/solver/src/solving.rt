@@ -15,7 +15,7 @@ ghost use Rattle.solver.specs.Inside.Solved.{IsOf, AreNumbersOf, ArePricesOf};
 use crate::worths::{admit_weighed, numbers};
 use network::Network;
 use search::{search, settle};
-use spa::{Aim, COMPONENTS, Instance, Lex, Matching, RANKS, lex_law, order_law};
+use spa::{Aim, COMPONENTS, Instance, Lex, Matching, RANKS};
 use std::alloc::{AllocError, Global};
 use verdict::{Prices, Proved as Solved, verdict_law};
 
@@ -90,9 +90,6 @@ fn admitted(alloc: Global, instance: &Instance, aim: Aim) -> Result<Solved, Allo
     ensures proved { IfOk result (λ s. IsProvedBest (order aim) instance.now.shape s.matching.places.items s.prices) }
     ensures best { IfOk result (λ s. IsBest aim instance.now.shape (pairs instance.now.shape s.matching.places.items)) }
 {
-    order_law();
-    lex_law();
-    verdict_law(instance);
     let network = admit_all(alloc, instance, aim)?;
     network.priced();
     let matching = matching_of(alloc, &network, instance.student_count())?;

@@ -12,7 +12,7 @@ ghost use Rattle.network.specs.Seen.{IsAdmission};
 ghost use Rattle.solver.specs.Inside.Weights.{worth_of, weighed};
 
 use network::{Admitted, Network};
-use spa::{Aim, COMPONENTS, Lex, lex_law};
+use spa::{Aim, COMPONENTS, Lex};
 use std::alloc::{AllocError, Global};
 
 /// Returns the worth of a pair of this rank, which is its weight as the aim reads it: one for the size, and for the rank one more
@@ -57,7 +57,6 @@ pub(crate) fn admit_weighed(
     ensures admitted { IfOk result (λ a. IsAdmission (lex_ops COMPONENTS) network.old network.new (weighed aim list.now) a.placed a.relaxations) }
     ensures memory { OnErr result (network.new ≡ network.old) }
 {
-    lex_law();
     weigh(aim, list, entries)?;
     network.admit(entries)
 }
@@ -78,7 +77,6 @@ fn turned(worth: &Lex) -> [i64; COMPONENTS]
     requires { (lex_ops COMPONENTS).span worth.now < 2 ^ 62 }
     ensures { (t : ℕ) → t < COMPONENTS → at result t ≡ as_read Generous (row COMPONENTS worth.now) t }
 {
-    lex_law();
     let mut numbers = [0; COMPONENTS];
     numbers[0] = worth.0[0];
     for k in 1..COMPONENTS {

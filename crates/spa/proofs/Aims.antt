@@ -4,6 +4,7 @@ use Rattle.std.proofs.Math.IntN.{neg_ℤ-+ℤ}
 use Rattle.spa.proofs.Common.{ints, cases_lt, RANKS, COMPONENTS, Aim, Greedy, Generous, as_read, ranks_read, order, plus, read_alike, Shape, Pair, IsBest, IsUnbeaten, profile, weight_row}
 use Rattle.spa.proofs.Orders.{RowAtMost, RowAtMost_refl, RowAtMost_trans, RowAtMost-plus, at_most_from, not_before}
 use Rattle.spa.proofs.Duality.{IsSumOrder}
+use Rattle.spa.specs.Order.{IsSettled}
 
 -- an aim reads a sum by place
 pub read_sum : (aim : Aim) (v w : ℕ → ℤ) (t : ℕ) → as_read aim (plus v w) t ≡ plus (as_read aim v) (as_read aim w) t
@@ -72,3 +73,7 @@ unbeaten_from_best aim i M g =
                 inr (ap pos same, at_most_from RANKS (p N) (p M) (g.first N n same))
           ]);
     }
+
+-- so the order of an aim is settled by the places of a worth
+pub settled : (aim : Aim) → IsSettled (order aim)
+settled aim = record { same = (aim_sums aim).same; goes_on = (aim_sums aim).trans }

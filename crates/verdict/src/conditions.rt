@@ -12,7 +12,7 @@ ghost use Rattle.verdict.specs.declared.prices.Prices.{Prices};
 use crate::cover::first_uncovered;
 use crate::prices::{Prices, has_shape, is_not_below_zero};
 use crate::totals::is_equal;
-use spa::{Aim, Instance, Matching, aim_law, list_law, price_law};
+use spa::{Aim, Instance, Matching};
 
 /// The first condition that fails.
 #[derive(Clone, Copy, PartialEq, Eq, Drop)]
@@ -43,9 +43,6 @@ pub fn check(
     // A yes proves the matching best against every matching of the instance.
     ensures best { OnOk result (IsBest aim instance.now.shape (pairs instance.now.shape matching.now.places.items)) }
 {
-    list_law(instance);
-    aim_law(instance);
-    price_law(instance);
     if matching.fault(instance).is_some() {
         return Err(CheckFault::NotMatching);
     }
@@ -62,15 +59,6 @@ pub fn check(
         return Err(CheckFault::Unequal);
     }
     Ok(())
-}
-
-/// Prices that meet the five conditions by an aim prove a matching best by it.
-pub fn verdict_law(instance: &Instance)
-    ensures { (aim : Aim) (ks : List (Option ℕ)) (p : Prices) → IsProvedBest (order aim) instance.now.shape ks p
-        → IsBest aim instance.now.shape (pairs instance.now.shape ks) }
-{
-    aim_law(instance);
-    price_law(instance);
 }
 
 /// A matching, and prices that prove it best.

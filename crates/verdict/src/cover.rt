@@ -11,7 +11,7 @@ ghost use Rattle.verdict.specs.Verdict.{HasShape, IsUncoveredAt, IsFirstUncovere
 ghost use Rattle.verdict.specs.Inside.Cover.{IsListCovered, IsFirstPlace};
 
 use crate::prices::Prices;
-use spa::{Aim, COMPONENTS, Instance, list_law, precedes};
+use spa::{Aim, COMPONENTS, Instance, precedes};
 
 /// Returns what three prices come to together.
 fn paid(
@@ -56,7 +56,6 @@ fn is_uncovered(
     requires listed { IsPlaceOf (list_of instance.now.shape student) place }
     ensures { IsTrue result ↔ IsUncoveredAt (order aim) instance.now.shape prices.now student place }
 {
-    list_law(instance);
     let project = instance.choice(student, place);
     let supervisor = instance.supervisor_of(project);
     let paid = paid(

@@ -1,5 +1,6 @@
 use Rattle.std.proofs.Common.{◌≡◌, ℕ, List, refl, ap, sym, ◌∙◌, subst}
 use Rattle.public_result.proofs.Common.{IsPostOf, IsProvedBest, IsSound, IsWithinLimits, Posted, Shape, order, with_lists}
+use Rattle.public_result.proofs.Accepted.{posts_are_accepted}
 use Rattle.public_result.proofs.posting.post.Goals as goal
 
 pub returns : goal.returns
@@ -20,9 +21,9 @@ returns c =
     record {
       rolls = rolls;
       post = post;
-      accepted = λ aim best. c.accepted_law.ensures aim t i.students c.args.matching.now.places.items c.args.prices
-          (subst IsSound (sym rolls) c.fit.ensures.sound)
-          (subst IsWithinLimits (sym rolls) c.fit.ensures.limits)
+      accepted = λ aim best. posts_are_accepted aim t i.students c.args.matching.now.places.items c.args.prices
+          (subst IsSound (sym rolls) c.supervisors.ensures.fit.sound)
+          (subst IsWithinLimits (sym rolls) c.supervisors.ensures.fit.limits)
           (subst (λ (j : Shape). IsProvedBest (order aim) j c.args.matching.now.places.items c.args.prices) (sym rolls) best)
           post;
     }

@@ -1,5 +1,6 @@
 use Rattle.std.proofs.Common.{refl}
 use Rattle.public_result.proofs.Common.{false≢true}
+use Rattle.public_result.proofs.Best.{posted_is_best}
 use Rattle.public_result.proofs.public.check_public.Goals as goal
 
 pub returns-clause-accepted : goal.returns-clause-accepted
@@ -15,7 +16,7 @@ returns-clause-accepted c = (
 
 pub returns-clause-best : goal.returns-clause-best
 returns-clause-best c =
-    λ lists content. c.posted_law.ensures.best c.args.aim c.args.posted.now lists (record {
+    λ lists content. posted_is_best c.args.aim c.args.posted.now lists (record {
       placed = c.if-not-is_placed.ensures.0 refl;
       prices = c.if-not-has_prices.ensures.0 refl;
       not_below = c.if-not-is_not_below.ensures.0 refl;

@@ -9,10 +9,10 @@ pub publish-requires : goal.publish-requires
 publish-requires c = c.requires.matched.places
 
 pub write_public-requires-clause-supervisors : goal.write_public-requires-clause-supervisors
-write_public-requires-clause-supervisors c = omega (arith, ap length c.supervisor_codes.ensures.codes, c.fit.ensures.supervisors.one_each, ap (λ (s : Shape). length s.supervisors) c.in_ok-posted.ensures.rolls)
+write_public-requires-clause-supervisors c = omega (arith, ap length c.supervisor_codes.ensures.codes, c.supervisor_codes.ensures.fit.supervisors.one_each, ap (λ (s : Shape). length s.supervisors) c.in_ok-posted.ensures.rolls)
 
 pub write_public-requires-clause-projects : goal.write_public-requires-clause-projects
-write_public-requires-clause-projects c = omega (arith, ap length c.project_codes.ensures.codes, c.fit.ensures.projects.one_each, ap (λ (s : Shape). length s.projects) c.in_ok-posted.ensures.rolls)
+write_public-requires-clause-projects c = omega (arith, ap length c.project_codes.ensures.codes, c.supervisor_codes.ensures.fit.projects.one_each, ap (λ (s : Shape). length s.projects) c.in_ok-posted.ensures.rolls)
 
 pub write_public-requires-clause-known : goal.write_public-requires-clause-known
 write_public-requires-clause-known c = (c.in_ok-posted.ensures.accepted c.requires).0.placed.known

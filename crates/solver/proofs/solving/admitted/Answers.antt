@@ -2,6 +2,8 @@ use Rattle.std.proofs.Common.{ℕ, ◌≤◌, sym, subst, arith, List, Option, l
 use Rattle.solver.proofs.Common.{RANKS, order, Shape, IsPlaceOf, list_of, IsBest, pairs, IsProvedBest, IfOk-from_err, length-map, weighed}
 use Rattle.solver.proofs.PricesProve.{shape_is, list_short}
 use Rattle.solver.proofs.FiveConditions.{proved_best}
+use Rattle.spa.proofs.LexOrder.{lexicographic}
+use Rattle.verdict.proofs.Best.{proved_is_best}
 use Rattle.solver.proofs.solving.admitted.Goals as goal
 
 pub matching_of-requires-clause-small : goal.matching_of-requires-clause-small
@@ -14,14 +16,14 @@ matching_of-requires-clause-small c s k e =
 pub returns-clause-proved : goal.returns-clause-proved
 returns-clause-proved c =
     let i : Shape = c.args.instance.now.shape in
-    let b : IsProvedBest (order c.args.aim) i c.in_ok-network.network.places c.in_ok-prices.prices = proved_best c.args.aim c.lex_law.ensures i c.in_ok-network.network c.in_ok-prices.prices c.student_count.ensures.fit.sound c.in_ok-network.ensures c.in_ok-prices.ensures c.priced.ensures in
+    let b : IsProvedBest (order c.args.aim) i c.in_ok-network.network.places c.in_ok-prices.prices = proved_best c.args.aim lexicographic i c.in_ok-network.network c.in_ok-prices.prices c.student_count.ensures.fit.sound c.in_ok-network.ensures c.in_ok-prices.ensures c.priced.ensures in
     subst (λ (ks : List (Option ℕ)). IsProvedBest (order c.args.aim) i ks c.in_ok-prices.prices) (sym c.in_ok-matching.ensures) b
 
 pub returns-clause-best : goal.returns-clause-best
 returns-clause-best c =
     let i : Shape = c.args.instance.now.shape in
-    let b : IsProvedBest (order c.args.aim) i c.in_ok-network.network.places c.in_ok-prices.prices = proved_best c.args.aim c.lex_law.ensures i c.in_ok-network.network c.in_ok-prices.prices c.student_count.ensures.fit.sound c.in_ok-network.ensures c.in_ok-prices.ensures c.priced.ensures in
-    subst (λ (ks : List (Option ℕ)). IsBest c.args.aim i (pairs i ks)) (sym c.in_ok-matching.ensures) (c.verdict_law.ensures c.args.aim c.in_ok-network.network.places c.in_ok-prices.prices b)
+    let b : IsProvedBest (order c.args.aim) i c.in_ok-network.network.places c.in_ok-prices.prices = proved_best c.args.aim lexicographic i c.in_ok-network.network c.in_ok-prices.prices c.student_count.ensures.fit.sound c.in_ok-network.ensures c.in_ok-prices.ensures c.priced.ensures in
+    subst (λ (ks : List (Option ℕ)). IsBest c.args.aim i (pairs i ks)) (sym c.in_ok-matching.ensures) (proved_is_best i c.student_count.ensures.fit.sound c.args.aim c.in_ok-network.network.places c.in_ok-prices.prices b)
 
 pub matching_of-requires-clause-students : goal.matching_of-requires-clause-students
 matching_of-requires-clause-students c = ap length c.in_ok-network.ensures.lists ∙ length-map c.args.instance.now.shape.students (weighed c.args.aim) ∙ sym c.student_count.ensures.count
