@@ -11,7 +11,7 @@ use Rattle.sqlite_schema.specs.declared.schema.Index.{Index}
 use Rattle.sqlite_trees.specs.Objects.{catalog_tree}
 use Rattle.sqlite_trees.specs.View.{is_int}
 use Rattle.sqlite.specs.declared.types.Value.{Value}
-use Rattle.std.proofs.Common.{◌≡◌, ◌⊎◌, inl, inr, ℕ, ◌+◌, ◌<◌, ◌^◌, List, [], ◌∷◌, Option, Some, None, true, false, filter, pos, slice_get, refl, sym, ap, subst, ◌∙◌, arith}
+use Rattle.std.proofs.Common.{◌≡◌, ◌⊎◌, inl, inr, ℕ, ◌+◌, ◌<◌, ◌^◌, List, [], ◌∷◌, Some, None, true, false, filter, pos, slice_get, refl, sym, ap, subst, ◌∙◌, arith}
 use Rattle.sql_tables.specs.Common.{AllByRecursion, IsAscending, IsTable, Row, Null, Int, Words, column, rowid, value_cmp}
 use Rattle.sql_tables.specs.Keyed.{IsKeyed}
 use Rattle.sql_tables.specs.Ours.{HasRoom, IsOurs, IsOwnIndex}
