@@ -1,10 +1,15 @@
-use Rattle.std.proofs.Common.{◌≡◌, ℕ, List, sym, ◌∙◌}
+use Rattle.std.proofs.Common.{◌≡◌, ◌∙◌, ◌⊎◌, ℕ, List, true, false, inl, inr, sym, arith}
+use Rattle.std.specs.Str.{bytes_eq}
+use Rattle.std.proofs.lemmas.Bool.{cases_Bool}
 use Rattle.spa.proofs.Common.{bytes_eq-Decides}
 use Rattle.spa.proofs.Places.{slice_get_at}
 use Rattle.spa.proofs.codes.position_at.Goals as goal
 
+-- two texts that compare as equal are one
+texts_tell : (a b : List ℕ) → ((bytes_eq a b ≡ true) × (a ≡ b)) ⊎ (bytes_eq a b ≡ false)
+texts_tell a b = elim (cases_Bool (bytes_eq a b)) [ inl same ↦ inl (same, (bytes_eq-Decides a b).0 same) | inr other ↦ inr other ]
+
 pub returns-then-eq : goal.returns-then-eq
 returns-then-eq c =
-    let found : List ℕ = c.as_str-then-guess-codes.result.now in
-    let same : found ≡ c.as_str-then-guess-codes-2.result.now = (bytes_eq-Decides found c.as_str-then-guess-codes-2.result.now).0 (sym c.eq.ensures ∙ c.if-eq.true) in
-    (c.if-guess-codes.true, slice_get_at c.args.codes.now c.guess-guess.result c.index-codes-guess.result c.args.code.now c.if-guess-codes.true (sym c.index-codes-guess.is ∙ sym c.as_str-then-guess-codes.ensures.value ∙ same ∙ c.as_str-then-guess-codes-2.ensures.value))
+    let same : c.index-codes-guess.result ≡ c.args.code.now = grind (arith, texts_tell) in
+    (c.if-guess-codes.true, slice_get_at c.args.codes.now c.guess-guess.result c.index-codes-guess.result c.args.code.now c.if-guess-codes.true (sym c.index-codes-guess.is ∙ same))
