@@ -35,7 +35,7 @@ each (r ∷ rows) h = let parts = and_parts _ _ h in (parts.0, each rows parts.1
 keyed_if_rising : (rows : List Row) → have_ids rows ≡ true → rises rows ≡ true → IsKeyed rows
 keyed_if_rising rows ids up = record { ids = each rows ids; apart = all_apart rows (rising rows up) }
 
--- what tests of rows tell: an id is missing, they do not rise, or they are keyed
+-- an id is missing, the rows do not rise, or they are keyed
 pub keyed_tells : (rows : List Row) → (have_ids rows ≡ false) ⊎ ((rises rows ≡ false) ⊎ IsKeyed rows)
 keyed_tells rows = elim (cases_Bool (have_ids rows)) [
   | inl ids ↦ elim (cases_Bool (rises rows)) [ inl up ↦ inr (inr (keyed_if_rising rows ids up)) | inr not ↦ inr (inl not) ]
