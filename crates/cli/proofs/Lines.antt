@@ -1,5 +1,5 @@
 -- What was done at a file is an outcome of the task, of the line, and of the words.
-use Rattle.std.proofs.Common.{◌≡◌, ◌⊎◌, inl, inr, ℕ, List, string_bytes, Some, None, Result, Ok, Err, MatchResult, String, ap, refl, sym, subst}
+use Rattle.std.proofs.Common.{◌≡◌, ◌⊎◌, inl, inr, ℕ, List, codes, string_bytes, Some, None, Result, Ok, Err, MatchResult, String, ap, refl, sym, subst}
 use Rattle.cli.proofs.Common.{⊤, WorldState, Trouble, Global, over_files, Refusal, Request, LineFault, IsAnswer, Task, Both, ComesTo, ImportsFile, MayCome, MayDo, MayDoAt, OfDatabase, OnFile, Outcome, Prints, refused, AskedAt, Came, CommandAt, DoneAt, IsRefusalOf, IsUnfound, LineAt, WordsAt, Status}
 use Rattle.sqlite_disk.specs.declared.Disk.{Ghosts}
 use Rattle.sqlite.specs.declared.error.Error.{Error}
@@ -8,9 +8,13 @@ use Rattle.sqlite.specs.declared.error.ErrorCode.TheVariants.{OutOfMemory}
 use Rattle.round_files.specs.Rounds.{IsSolved, IsChecked, IsPublished}
 use Rattle.round_files.specs.Public.{IsCheckedOwn}
 use Rattle.office_model.specs.declared.refusal.Refusal.TheVariants as no
+use Rattle.args.proofs.OnWords.{solves_round}
 use Rattle.args.specs.declared.line.Line.{Line}
 use Rattle.args.specs.declared.line.Line.TheVariants as line
 use Rattle.cli.specs.declared.tasks.Task.TheVariants as task
+use Rattle.args.specs.declared.line.LineFault.TheVariants.{Memory}
+use Rattle.cli.specs.Outcomes.{MayComeOf}
+use Rattle.cli.specs.Solving.{SolvesIn, solve_words}
 use Rattle.cli.proofs.Imports.{imports_file}
 use Rattle.cli.proofs.Opened.{may_do}
 use Rattle.cli.proofs.Writers.{of_any, prints_more}
@@ -70,3 +74,16 @@ module _ {D : Type 0} {g : Ghosts D} {O E : Type 0} (world : WorldState) where
 
   pub words_come : (words : List (List ℕ)) (came : Came D g) (old new : Both O E) (status : Status) → WordsAt world words came old new status → Prints (ComesTo words) old new status
   words_come words came old new status at = command_comes words at.0 came old new status at.1 at.2
+
+  solve_at : (command : Result Line LineFault) → MatchResult command (λ l. (file : String Global) × (l ≡ line.Solve file) × (string_bytes file ≡ codes "round.txt")) (λ fault. fault ≡ Memory)
+      → (came : Came D g) (old new : Both O E) (status : Status) → CommandAt world command came old new status → (came ≡ None) × Prints (SolvesIn world.holds) old new status
+  solve_at (Ok l) is came old new status at =
+      let solved : LineAt world (line.Solve is.0) came old new status = subst (λ (l : Line). LineAt world l came old new status) is.1 at in (
+        solved.0,
+        prints_more (OnFile (world.holds (string_bytes is.0)) IsSolved) (SolvesIn world.holds) (λ o on. inr (subst (λ (name : List ℕ). OnFile (world.holds name) IsSolved o) is.2 on)) _ _ _ solved.1,
+      )
+  solve_at (Err fault) is came old new status at = (at.0, prints_more (MayComeOf (Err fault)) (SolvesIn world.holds) (λ o printed. inl (subst (λ (f : LineFault). MayComeOf (Err f) o) is printed)) _ _ _ at.1)
+
+  -- what comes of the words that solve a round file comes of that file
+  pub solve_comes : (came : Came D g) (old new : Both O E) (status : Status) → WordsAt world solve_words came old new status → (came ≡ None) × Prints (SolvesIn world.holds) old new status
+  solve_comes came old new status at = solve_at at.0 (solves_round at.0 at.1) came old new status at.2

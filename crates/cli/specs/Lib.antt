@@ -4,5 +4,6 @@ pub mod Outcomes
 pub mod Imports
 pub mod Databases
 pub mod Lasting
+pub mod Solving
 pub mod Begun
 pub mod Inside

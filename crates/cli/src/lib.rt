@@ -26,7 +26,7 @@ mod status;
 mod tasks;
 mod texts;
 
-pub use laws::{printed_law, task_law};
+pub use laws::{printed_law, solve_law, task_law};
 pub use opening::Closing;
 pub use outputs::Outputs;
 pub use program::{run_program, serve_anew, start};
