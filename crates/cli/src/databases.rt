@@ -40,9 +40,9 @@ fn open_and_perform<S: Alter + Drop, P: Ports, O: Sink, E: Sink>(
 {
     match Desk::open(alloc, connection) {
         Ok(mut desk) => {
-            desk.keeps();
+            desk.office();
             let status = perform(alloc, ports, &mut desk, task, outputs);
-            desk.keeps();
+            desk.office();
             (status, desk.into_connection())
         }
         Err((refusal, connection)) => {

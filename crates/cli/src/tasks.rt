@@ -119,7 +119,7 @@ pub(crate) fn perform<S: Alter, P: Ports, O: Sink, E: Sink>(
         Task::Ask(asked) => {
             let answer = desk.ask(asked);
             // What a desk keeps between requests is a part of the step.
-            desk.keeps();
+            desk.office();
             match answer {
                 Ok(reply) => outputs.print_reply(&reply),
                 Err(refusal) => outputs.refuse(refusal),

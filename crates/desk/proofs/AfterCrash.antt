@@ -2,16 +2,16 @@
 use Rattle.std.proofs.Common.{◌≡◌, ◌⊎◌, inl, inr, List, ◌∷◌, sym, subst}
 use Rattle.desk.proofs.Common.{Survives, state, Request, State, MayRecoverTo, latest, in_latest, CarriesOut, StandsForOne}
 use Rattle.sqlite_trees.specs.declared.store.Store.{Ghosts}
-use Rattle.store.specs.Laws.{OpensAgain}
+use Rattle.store.proofs.SameTrees.{opens_again}
 use Rattle.desk.specs.DeskState.{DeskState}
 use Rattle.desk.specs.Laws.{IsAtRest, IsOneOf, IsOpenedAfter, LeavesOneOf}
 use Rattle.desk.proofs.SavedRows.{was_clean}
 
-module _ {S : Type 0} (ghosts : Ghosts S) (again : OpensAgain) where
+module _ {S : Type 0} (ghosts : Ghosts S) where
   -- what is left of a desk at rest is its office
   pub rest_kept : (desk : DeskState S) (office : State) → IsAtRest ghosts desk → IsOpenedAfter ghosts desk office → office ≡ desk.office
   rest_kept desk office rest it =
-      again latest (state ghosts desk.store).now it.found it.opened desk.office office rest.sound it.sound (rest.alone it.found.trees it.left) (in_latest rest.stands) rest.fit it.fit it.opens
+      opens_again latest (state ghosts desk.store).now it.found it.opened desk.office office rest.sound it.sound (rest.alone it.found.trees it.left) (in_latest rest.stands) rest.fit it.fit it.opens
 
   -- what is left of a call is what could be left before, or an office that it may make
   pub call_whole : (IsOne : State → Type 0) (old new : DeskState S) (refused : List Request) → LeavesOneOf ghosts refused old
@@ -29,7 +29,7 @@ module _ {S : Type 0} (ghosts : Ghosts S) (again : OpensAgain) where
     }))
     | inr left ↦
         let one = left.step in
-        let same : office ≡ one.office = again latest left.db it.found it.opened one.office office left.sound it.sound left.same (in_latest one.stands) one.fit it.fit it.opens in
+        let same : office ≡ one.office = opens_again latest left.db it.found it.opened one.office office left.sound it.sound left.same (in_latest one.stands) one.fit it.fit it.opens in
         inr (subst IsOne (sym same) one.one)
   ]
 

@@ -14,10 +14,9 @@ use Rattle.sql_tables.specs.Causes.{IsCaused}
 use Rattle.sql_tables.specs.Ours.{IsOurs}
 use Rattle.sql_tables.proofs.Ours.{unacted}
 use Rattle.store.specs.Available.{AreFew, AreReady, LeavesRoom, StaysOurs}
-use Rattle.store.proofs.Available.{room_for}
+use Rattle.store.proofs.Available.{room_for, takes_changes}
 use Rattle.store.specs.Causes.{IsHinderedAmong}
 use Rattle.store.specs.Saving.{AreActedOn}
-use Rattle.store.specs.Laws.{TakesChanges}
 use Rattle.desk.specs.Keeping.{Keeps}
 
 -- no foreign key acts on tables of ours
@@ -25,16 +24,16 @@ quiet : (old : Seen) → IsOurs old.now → AreActedOn old.now.schema → ⊥
 quiet old ours (table, among, (place, listed, acts)) = unacted old.now ours table place listed acts
 
 module _ (o : State) (changes : List Change) where
-  pub available_so : TakesChanges → (answer : Result Reply Refusal) (old new : Seen) → IsFit o → Keeps old o → IsLive old → AreFew changes (rows_in o) → AreFresh changes (rows_in o) → (HasCleanDisk new → HasCleanDisk old)
+  pub available_so : (answer : Result Reply Refusal) (old new : Seen) → IsFit o → Keeps old o → IsLive old → AreFew changes (rows_in o) → AreFresh changes (rows_in o) → (HasCleanDisk new → HasCleanDisk old)
       → ((AreActedOn old.now.schema → ⊥) → IsCaused Storage (IsHinderedAmong changes) answer old new) → old.step_limit ≡ None → AreReady old.now → IsCaused Storage (λ _ _. ⊥) answer old new
-  available_so takes answer old new fit keeps live few fresh early cause unlimited ready clean told = record { why = by (let it = cause (quiet old ready.0) clean told in it.why) }
+  available_so answer old new fit keeps live few fresh early cause unlimited ready clean told = record { why = by (let it = cause (quiet old ready.0) clean told in it.why) }
     where
       by : {Faults : Type 0} → (old.is_open ≡ false) ⊎ (Faults ⊎ IsHinderedAmong changes old.step_limit old.now) → (old.is_open ≡ false) ⊎ (Faults ⊎ ⊥)
       by (inl shut) = inl shut
       by (inr (inl more)) = inr (inl more)
       by (inr (inr hindered)) = elim (cases_Bool old.is_open) [
         | inr shut ↦ inl shut
-        | inl up ↦ absurd (takes changes (rows_in o) old.now (live up).0 ready (keeps (early clean) up) few fresh (subst (λ l. IsHinderedAmong changes l old.now) unlimited hindered))
+        | inl up ↦ absurd (takes_changes changes (rows_in o) old.now (live up).0 ready (keeps (early clean) up) few fresh (subst (λ l. IsHinderedAmong changes l old.now) unlimited hindered))
       ]
 
 -- tables of ours stay ours, and changes that a request makes take no more rowids than it

@@ -11,7 +11,7 @@ use Rattle.sql_tables.specs.Ours.{HasRoom, IsOurs}
 use Rattle.sql_tables.specs.Table.{table_at}
 use Rattle.sql_tables.proofs.Founding.{founding}
 use Rattle.store.specs.Common.{AnyTable, Database, Has, Schema}
-use Rattle.store.specs.Laws.{FindsOurs, OpensOurs}
+use Rattle.store.proofs.Reopened.{finds_ours, opens_ours}
 use Rattle.store.specs.Tables.{HasNone, StandsFor}
 use Rattle.desk.specs.DeskState.{DeskState}
 use Rattle.desk.specs.Keeping.{Keeps}
@@ -38,7 +38,7 @@ ask_lasts ghosts n few old new q a ready asked = (
     before : HasCleanDisk (state ghosts new.store) → HasCleanDisk (state ghosts old.store)
     before clean = omega (arith, asked.saved.crash.clean, clean)
 
-module _ {S : Type 0} (ghosts : Ghosts S) (finds : FindsOurs) (opens : OpensOurs) where
+module _ {S : Type 0} (ghosts : Ghosts S) where
   -- a desk that is ready, and whose tables stand for its office
   record Stays (count : ℕ) (desk : DeskState S) : Type 0 where
     ready : IsReady ghosts count desk
@@ -73,7 +73,7 @@ module _ {S : Type 0} (ghosts : Ghosts S) (finds : FindsOurs) (opens : OpensOurs
   found_stays : (count : ℕ) (desk : DeskState S) (db : Database) → Stays count desk → IsFound ghosts desk db → Found count desk.office db
   found_stays count desk db it found =
       let ready = it.ready.ready found.clean found.was_open in
-      let here = finds (state ghosts desk.store).now db (it.live found.was_open).0 found.sound found.trees ready.0 in
+      let here = finds_ours (state ghosts desk.store).now db (it.live found.was_open).0 found.sound found.trees ready.0 in
       record { ours = here.0; room = here.1 (count * 2 ^ 20) ready.1; stands = here.2 (rows_in desk.office) (it.stands found.clean found.was_open) }
 
   again_stays : (count : ℕ) (desk at : DeskState S) → Stays count desk → IsThereAgain ghosts desk at → Stays count at
@@ -81,7 +81,7 @@ module _ {S : Type 0} (ghosts : Ghosts S) (finds : FindsOurs) (opens : OpensOurs
   again_stays count desk at it (inr (first, found, over)) =
       let opening = over.opened.opening in
       let here = found_stays count desk (state ghosts first).now it found in
-      let same = λ (clean : HasCleanDisk (state ghosts at.store)). (opens (state ghosts first).now desk.office over.sound here.ours here.stands).1 (state ghosts at.store).now at.office (opening.office clean) in
+      let same = λ (clean : HasCleanDisk (state ghosts at.store)). (opens_ours (state ghosts first).now desk.office over.sound here.ours here.stands).1 (state ghosts at.store).now at.office (opening.office clean) in
       record {
         ready = record {
           unlimited = opening.crash.limit ∙ over.unlimited;
@@ -101,5 +101,5 @@ module _ {S : Type 0} (ghosts : Ghosts S) (finds : FindsOurs) (opens : OpensOurs
   office_lasts asked few desk served =
       let it = served_stays asked 1 (omega (arith, few)) desk served in (
         λ at new request answer there is. (ask_lasts ghosts 0 (omega arith) at new request answer (again_stays 1 desk at it there).ready is).0,
-        λ found is hindered. let here = found_stays 1 desk found it is in (opens found desk.office is.sound here.ours here.stands).0 hindered,
+        λ found is hindered. let here = found_stays 1 desk found it is in (opens_ours found desk.office is.sound here.ours here.stands).0 hindered,
       )

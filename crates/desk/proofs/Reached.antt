@@ -13,7 +13,6 @@ use Rattle.office_model.specs.declared.request.Request.TheVariants as request
 use Rattle.sql_tables.specs.Table.{table_at, values}
 use Rattle.sql_tables.proofs.SameTrees.{listed_so, stands_so}
 use Rattle.store.specs.Common.{AllRows}
-use Rattle.store.specs.Laws.{OpensAgain}
 use Rattle.store.specs.Reading.{IsDamaged}
 use Rattle.store.specs.Tables.{StandsFor, TablesHold, numbered}
 use Rattle.store.proofs.Standing.{stand_as}
@@ -112,14 +111,13 @@ module _ {S : Type 0} (ghosts : Ghosts S) where
   pub found_whole : IsFoundWhole ghosts
   found_whole qs answers pending desk r clean found sound left = stood_is_whole found sound (all_stood qs answers pending desk r clean found.trees left)
 
-  module _ (again : OpensAgain) where
-    pub answers_stay : (qs : List Request) (answers : List (Result Reply Refusal)) (pending : List Request) (desk : DeskState S) → IsReached ghosts qs answers pending desk → LeavesOneOf ghosts pending desk
-    answers_stay [] [] pending desk r office it = inl (rest_kept ghosts again desk office r.1 it)
-    answers_stay (q ∷ qs) (a ∷ answers) pending desk r office it = elim r.4 [
-      | inl c ↦ inl (rest_kept ghosts again desk office (at_rest r.0 desk q a c.0 c.1 r.3 it.clean) it)
-      | inr s ↦
-          let one : IsOneOf r.0.office (q ∷ r.1) office = ask_whole ghosts again r.0 desk r.1 q (answers_stay qs answers r.1 r.0 r.2) r.3.saved.crash office it in
-          subst (λ pending. IsOneOf desk.office pending office) (sym s.1) (subst (λ o. IsOneOf o (q ∷ r.1) office) (sym s.0) one)
-    ]
-    answers_stay [] (a ∷ answers) pending desk r office it = absurd r
-    answers_stay (q ∷ qs) [] pending desk r office it = absurd r
+  pub answers_stay : (qs : List Request) (answers : List (Result Reply Refusal)) (pending : List Request) (desk : DeskState S) → IsReached ghosts qs answers pending desk → LeavesOneOf ghosts pending desk
+  answers_stay [] [] pending desk r office it = inl (rest_kept ghosts desk office r.1 it)
+  answers_stay (q ∷ qs) (a ∷ answers) pending desk r office it = elim r.4 [
+    | inl c ↦ inl (rest_kept ghosts desk office (at_rest r.0 desk q a c.0 c.1 r.3 it.clean) it)
+    | inr s ↦
+        let one : IsOneOf r.0.office (q ∷ r.1) office = ask_whole ghosts r.0 desk r.1 q (answers_stay qs answers r.1 r.0 r.2) r.3.saved.crash office it in
+        subst (λ pending. IsOneOf desk.office pending office) (sym s.1) (subst (λ o. IsOneOf o (q ∷ r.1) office) (sym s.0) one)
+  ]
+  answers_stay [] (a ∷ answers) pending desk r office it = absurd r
+  answers_stay (q ∷ qs) [] pending desk r office it = absurd r

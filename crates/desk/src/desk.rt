@@ -94,15 +94,16 @@ impl<S: Alter> Desk<S> {
         }
     }
 
-    /// The tables of every desk stand for its office, which is fit, and a session that it caches mirrors its open round.
-    pub fn keeps(&self)
+    /// Lends the office. It is fit, the tables of every desk stand for it, and a session that is cached mirrors its open round.
+    pub fn office(&self) -> &Office
+        ensures same { result.now ≡ self.now.office }
         ensures tables { Keeps (state S.Store self.now.store) self.now.office }
         ensures ended { self.now.store.in_transaction ≡ false }
         ensures fit { IsFit self.now.office }
         ensures live { IsLive (state S.Store self.now.store) }
         ensures mirrors { MirrorsRound self.now.office self.now.session }
     {
-        self.persistent.keeps();
+        self.persistent.office()
     }
 
     /// Gives the connection up. Allocates nothing.
@@ -149,7 +150,7 @@ impl<S: Alter> Desk<S> {
         ensures crash { IfOk result (λ answers. Survives (state S.Store self.old.store) (state S.Store self.new.store) (MayRecoverTo (λ _. StandsForOne (Begins self.old.office requests.items answers.items)) (state S.Store self.old.store))) }
         ensures stays_shut { HasCleanDisk (state S.Store self.new.store) → IsTrue (state S.Store self.new.store).is_open → IsTrue (state S.Store self.old.store).is_open }
     {
-        self.keeps();
+        self.office();
         let mut answers = Vec::with_capacity(self.alloc, requests.len())?;
         for request in requests {
             let answer = self.ask(request);
@@ -197,8 +198,7 @@ impl<S: Alter> Desk<S> {
         ensures at_once { AnswersAtOnce self.old.office self.old.session request result }
         ensures session { GoesOn self.old.office request result self.old.session self.new.session }
     {
-        self.keeps();
-        let office = &self.persistent.office;
+        let office = self.office();
         match request {
             Request::Plain(plain) => self.persistent.read(plain),
             Request::Close => unreachable!(),
@@ -222,11 +222,11 @@ impl<S: Alter> Desk<S> {
         ensures session { GoesOn self.old.office Request.Preview result self.old.session self.new.session }
         ensures kept { IsTrue (is_some self.old.session) → IsOk result }
     {
-        self.keeps();
+        let office = self.office();
         if let Some(session) = &self.session {
             return Ok(layers::read_preview(session));
         }
-        let session = layers::start_session(self.alloc, &self.persistent.office)?;
+        let session = layers::start_session(self.alloc, office)?;
         let reply = layers::read_preview(&session);
         self.session = Some(session);
         Ok(reply)
@@ -242,8 +242,7 @@ impl<S: Alter> Desk<S> {
         ensures saved { IsSaved self.old.office request result (state S.Store self.old.store) (state S.Store self.new.store) }
         ensures session { GoesOn self.old.office request result self.old.session self.new.session }
     {
-        self.keeps();
-        let effect = effect_of(self.alloc, &self.persistent.office, &request)?;
+        let effect = effect_of(self.alloc, self.office(), &request)?;
         let reply = self.persistent.change(request)?;
         let kept = self.session.take();
         self.session = next_session(self.alloc, &self.persistent.office, kept, effect);

@@ -19,9 +19,7 @@ pub fn crash_law<S: Alter>()
     ensures reaches { AskReaches S.Store }
     ensures answered { AnswersStay S.Store }
     ensures whole { IsFoundWhole S.Store }
-{
-    store::opening_law();
-}
+{}
 
 /// A desk that is ready for some requests, since its tables are as they are made here and have rowids left, refuses none of them for
 /// the database's own reasons: each leaves it ready for the others. So an office that was made here refuses none of fewer than 2^40
@@ -29,6 +27,4 @@ pub fn crash_law<S: Alter>()
 pub fn lasting_law<S: Alter>()
     ensures ask { AskLasts S.Store }
     ensures office { OfficeLasts S.Store }
-{
-    store::reopening_law();
-}
+{}

@@ -24,7 +24,6 @@ ghost use Rattle.desk.specs.layers.Changes.{MayChange};
 
 use import_csv::{ImportFault, read_import};
 use office::Office;
-use office::closing::places_law;
 use office_model::{Bytes, Done, ImportKind, Refusal, Reply, ReportKind, Text};
 use reports::instance_text;
 pub use session::{join, read_preview, start_session};
@@ -40,7 +39,6 @@ pub fn close(alloc: Global, office: &mut Office) -> Result<Done, AllocError>
     ensures changes { IfOk result (λ done. MayChange office.old request.Close done.changes.items) }
     ensures memory { OnErr result (office.new ≡ office.old) }
 {
-    places_law();
     let instance = office.instance()?;
     instance.fit();
     let aim = office.last_aim();
@@ -54,7 +52,7 @@ pub fn round_text(alloc: Global, office: &Office) -> Result<Reply, AllocError>
     ensures made { IfOk result (λ reply. Makes layers office.now request.RoundText reply office.now) }
 {
     let instance = office.instance()?;
-    let text = instance_text(alloc, office, &instance, office.last_aim())?;
+    let text = instance_text(alloc, &instance, office.last_aim())?;
     Ok(Reply::Text(Text::of(alloc, text.as_str())?))
 }
 

@@ -78,8 +78,9 @@ fn make_change(alloc: Global, office: &mut Office, request: Request) -> Result<D
 }
 
 impl<S: Alter> PersistentOffice<S> {
-    /// The tables stand for the office, which is fit.
-    pub(crate) fn keeps(&self)
+    /// Lends the office. It is fit, and the tables stand for it.
+    pub(crate) fn office(&self) -> &Office
+        ensures same { result.now ≡ self.now.office }
         ensures tables { Keeps (state S.Store self.now.store) self.now.office }
         ensures ended { self.now.store.in_transaction ≡ false }
         ensures fit { IsFit self.now.office }
@@ -87,6 +88,7 @@ impl<S: Alter> PersistentOffice<S> {
     {
         self.office.fit();
         self.store.shows();
+        &self.office
     }
 
     /// Answers from the office a plain request that only reads.
@@ -110,14 +112,12 @@ impl<S: Alter> PersistentOffice<S> {
         ensures quiet { IfSome (refusal layers self.old.office request) (λ _. self.new.store ≡ self.old.store) }
         ensures saved { IsSaved self.old.office request result (state S.Store self.old.store) (state S.Store self.new.store) }
     {
-        self.keeps();
-        let mut next = self.office.copy()?;
+        let mut next = self.office().copy()?;
         let done = match make_change(self.alloc, &mut next, request) {
             Ok(done) => done,
             Err(refusal) => return Err(refusal),
         };
         next.fit();
-        store::available_law();
         self.exchange(&mut next, done)
     }
 

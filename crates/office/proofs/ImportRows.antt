@@ -114,13 +114,13 @@ module _ (id : List ℕ) (kind : ImportKind) (bytes : List ℕ) (rows : List Pla
           ∙ (allowed (import_tests old id kind bytes) passed).1.1.1.0
 
       -- its row is added
-      row_added : rises import_key old.imports ≡ true → (i : Import) → i.id ≡ id → Transforms (import_added i ∷ []) mid (with_import i mid)
+      row_added : rises import_key mid.imports ≡ true → (i : Import) → i.id ≡ id → Transforms (import_added i ∷ []) mid (with_import i mid)
       row_added rise i own = subst (λ (b : Bool). Transforms (put_or_added b (record { table = ImportTable; cells = import_cells i }) ∷ []) mid (with_import i mid))
           (ap (has_import mid) own ∙ ap (λ (is : List Import). is_some (find import_key (of_code id) is)) private_same ∙ private_new)
-          (transforms_import i mid (ap (rises import_key) private_same ∙ rise))
+          (transforms_import i mid rise)
 
       -- all rows were made, and it is stored
-      pub import_made : rises import_key old.imports ≡ true → (new : State) → new ≡ with_import (record { id = id; kind = kind; bytes = bytes; rows = length rows }) mid → (done : Done) → done.reply ≡ reply.Rows (length rows)
+      pub import_made : rises import_key mid.imports ≡ true → (new : State) → new ≡ with_import (record { id = id; kind = kind; bytes = bytes; rows = length rows }) mid → (done : Done) → done.reply ≡ reply.Rows (length rows)
           → done.changes.items ≡ changes ++ import_added (record { id = id; kind = kind; bytes = bytes; rows = length rows }) ∷ [] → Imports id kind bytes rows old new (Ok done)
       import_made rise new is done answer changed =
           let i : Import = record { id = id; kind = kind; bytes = bytes; rows = length rows } in

@@ -11,8 +11,6 @@
 //! (`proofs/changes/OneRow.antt`), and so do changes one after another (`proofs/changes/Changes.antt`).
 #![tactic(auto)]
 
-mod laws;
 mod making;
 
-pub use laws::{allowed_law, rows_law};
 pub use making::{kept_placements, list_changes, opening_changes, reopening_changes};

@@ -15,9 +15,11 @@
 pub mod changes;
 pub mod closing;
 pub mod from_rows;
+mod laws;
 mod making;
 mod office;
 
 pub use from_rows::RowsFault;
+pub use laws::{allowed_law, closing_law, places_law, rows_law};
 pub use office::Office;
 pub use office_model::{Change, Done, Plain, Refusal, Reply, Request, Row};

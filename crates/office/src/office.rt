@@ -74,6 +74,7 @@ impl Office {
     /// Returns the office of these rows, which may come in any order. `Unfit` where no office has them. `Memory` where it runs out.
     pub fn from_rows(alloc: Global, rows: Vec<Row>) -> Result<Office, RowsFault>
         ensures rows { IfOk result (λ office. AreRowsOf rows.items office) }
+        ensures fit { IfOk result IsFit }
         ensures unfit { result ≡ Err RowsFault.Unfit → (o : State) → IsFit o → AreRowsOf rows.items o → ⊥ }
     {
         Ok(Office::of(alloc, gather(alloc, &rows)?))
@@ -82,6 +83,7 @@ impl Office {
     /// Copies the office. Both share the entries until either changes. An `Err` is out of memory.
     pub fn copy(&self) -> Result<Self, AllocError>
         ensures same { IfOk result (λ copy. copy ≡ self.now) }
+        ensures fit { IsFit self.now }
     {
         let alloc = self.alloc;
         Ok(Office {
@@ -99,6 +101,7 @@ impl Office {
     /// Returns the supervisors on the roll, by code.
     pub fn supervisors(&self) -> &[Supervisor]
         ensures all { let o = self.now in result.now ≡ o.supervisors }
+        ensures fit { IsFit self.now }
     {
         self.supervisors.entries()
     }
@@ -106,6 +109,7 @@ impl Office {
     /// Returns the projects on the roll, by code.
     pub fn projects(&self) -> &[Project]
         ensures all { let o = self.now in result.now ≡ o.projects }
+        ensures fit { IsFit self.now }
     {
         self.projects.entries()
     }

@@ -37,11 +37,11 @@ fn serve_at<S: Alter + Drop>(
 {
     match Desk::open(alloc, connection) {
         Ok(mut desk) => {
-            desk.keeps();
+            desk.office();
             let mut reader = Watched::new(stream);
             let mut writer = Watched::new(Vec::new(alloc));
             let came = serve_stream(alloc, &mut desk, &mut reader, &mut writer);
-            desk.keeps();
+            desk.office();
             let connection = desk.into_connection();
             connection.is_autocommit();
             match came {

@@ -10,7 +10,6 @@ use office_model::{Placement, Round, find};
 pub fn round_of(office: &Office, round: u32) -> Option<&Round>
     ensures { option_copied result ≡ round_of office.now round }
 {
-    office.fit();
     find(office.rounds(), round, "")
 }
 
@@ -18,6 +17,5 @@ pub fn round_of(office: &Office, round: u32) -> Option<&Round>
 pub fn placement_of<'a>(office: &'a Office, student: &str) -> Option<&'a Placement>
     ensures { option_copied result ≡ placement_of office.now student.now }
 {
-    office.fit();
     find(office.placements(), 0, student)
 }

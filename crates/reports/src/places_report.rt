@@ -97,7 +97,6 @@ fn push_offered(
     requires { at < MAX_SUPERVISORS }
     ensures { OnOk result ((n : ℕ) → slice_get (let o = office.now in o.supervisors) at ≡ Some supervisor.now → AreLoads office.now n counts.now → string_bytes out.new ≡ string_bytes out.old ++ own_rows told office.now n supervisor.now) }
 {
-    office.fit();
     let projects = office.projects();
     for position in 0..projects.len() {
         push_project(
@@ -143,7 +142,6 @@ pub fn by_supervisor(
 ) -> Result<String, AllocError>
     ensures { let o = office.now in IfOk result (λ text. string_bytes text ≡ flat_map (rows_of told o round) o.supervisors) }
 {
-    office.fit();
     let supervisors = office.supervisors();
     let counts = counted(
         Some(round),

@@ -5,25 +5,18 @@ ghost use Rattle.spa.specs.Named.{instance_of};
 ghost use Rattle.office_model.specs.State.{aim_of};
 ghost use Rattle.office_model.specs.Instances.{instance_of_round};
 ghost use Rattle.intake.specs.Lines.{instance_text};
-ghost use Rattle.reports.specs.Rounds.{IsRoundOf};
+ghost use Rattle.reports.specs.Rounds.{IsRound};
 
 use intake::write_round;
 use office::Office;
 use spa::{Aim, Instance};
 use std::alloc::{AllocError, Global};
 
-/// Writes the text of an instance that a round of the office has, and of an aim. An `Err` is out of memory.
-pub fn instance_text(
-    alloc: Global,
-    office: &Office,
-    instance: &Instance,
-    aim: Aim,
-) -> Result<String, AllocError>
-    requires { IsRoundOf office.now (instance_of instance.now) }
+/// Writes the text of the instance of a round, and of an aim. An `Err` is out of memory.
+pub fn instance_text(alloc: Global, instance: &Instance, aim: Aim) -> Result<String, AllocError>
+    requires { IsRound (instance_of instance.now) }
     ensures { IfOk result (λ text. string_bytes text ≡ instance_text aim (instance_of instance.now)) }
 {
-    office.fit();
-    instance.fit();
     write_round(alloc, instance, aim, None)
 }
 
@@ -32,5 +25,5 @@ pub fn text(alloc: Global, office: &Office, round: u32) -> Result<String, AllocE
     ensures { IfOk result (λ text. string_bytes text ≡ instance_text (aim_of office.now round) (instance_of_round office.now round)) }
 {
     let instance = office.instance_of_round(round)?;
-    instance_text(alloc, office, &instance, office.aim_of(round))
+    instance_text(alloc, &instance, office.aim_of(round))
 }

@@ -27,6 +27,7 @@ use Rattle.sql_tables.proofs.Taken.{IsGood, IsUnshared, in_place, none_goes, one
 use Rattle.store.specs.Inside.Saving.{AppliesOne}
 use Rattle.store.proofs.Held.{applies_one}
 use Rattle.store.specs.Available.{LeavesRoom}
+use Rattle.store.specs.Laws.{TakesChanges}
 use Rattle.store.specs.Rows.{IsAmong, IsRollTable, value_of, values}
 use Rattle.store.proofs.Among.{in_rolls, part_in_rolls, row_in_rolls}
 use Rattle.store.proofs.Begins.{begins_same}
@@ -492,6 +493,9 @@ run_taken (c ∷ cs) rows db sound ours few room t allowed fresh (inl hindered) 
 run_taken (c ∷ cs) rows db sound ours few room t allowed fresh (inr (mid, did, hindered)) =
     let left = change_made db sound ours rows t mid c did in
     run_taken cs (after_change c rows) mid left.sound left.ours (omega (arith, few)) (left.room allowed.0 (length cs) (omega (arith, few)) room) left.holds allowed.1 fresh.1 hindered
+
+pub takes_changes : TakesChanges
+takes_changes changes rows db sound ready t few fresh = run_taken changes rows db sound ready.0 few.1 (room_for _ _ db few.1 ready.1) t few.0 fresh
 
 -- and all of them leave ours, and room for all rows but theirs
 pub run_ours : (changes : List Change) (rows : AllRows) (db now : Database) → IsDatabase db → IsOurs db → TablesHold db rows → (let all = each_of applying changes in all.does db now)

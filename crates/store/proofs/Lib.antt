@@ -15,8 +15,8 @@ mod Fitness
 mod ReadRows
 mod Migrated
 mod FoundOffice
-mod SameTrees
+pub mod SameTrees
 mod Opening
 mod Readings
 mod Nothing
-mod Reopened
+pub mod Reopened

@@ -1,7 +1,8 @@
 -- Two databases with the same trees list the same tables, so these hold the same rows, in one edition, and the rows determine the office.
 use Rattle.store.proofs.Common.{IsPermutation, IsPermutation-trans, IsPermutation-sym, IsPermutation-same, Database, IsDatabase, Values, AnyTable, Has, Table, Choice, Edition, RoundAim, Place, cells, table_at, Stands, listed_once, AllRows, RowOf, SameRows, of_table, IsFit, AreRowsOf, State, AnEdition, First, Second, Third, HaveNoLater, migrated_rows, rows_in_edition, all_tables, values, beyond, latest, number_of, rolls_of, HasNoneOf, HoldIn, Opens, StandsIn, TablesOf, numbered, ◌≡◌, ◌⊎◌, ◌<◌, arith, ℕ, List, refl, sym, subst, ◌∙◌, map, inl, inr, all-map, map_back, Cells, same_table, [], ◌∷◌, ◌++◌, Bool, true, cond, ap, append-nil, false}
 use Rattle.sql_tables.proofs.SameTrees.{listed_so, stands_so}
-use Rattle.office.specs.changes.Laws.{RowsGiveOffice}
+use Rattle.office.proofs.changes.Determine.{rows_determine}
+use Rattle.store.specs.Laws.{OpensAgain}
 use Rattle.store.proofs.Among.{among_or_not, is_among}
 use Rattle.store.proofs.Standing.{in_latest, stand_as, rows_permuted}
 use Rattle.schema.specs.Rows.{all_tables}
@@ -104,21 +105,21 @@ none_later Second list office at = tt
 none_later Third list office at = tt
 
 -- the tables stand for one office in an edition
-one_office : RowsGiveOffice → (e : AnEdition) (db : Database) (office again : State) → StandsIn e db office → StandsIn e db again → IsFit office → IsFit again → again ≡ office
-one_office one e db office again s t fit fits =
+one_office : (e : AnEdition) (db : Database) (office again : State) → StandsIn e db office → StandsIn e db again → IsFit office → IsFit again → again ≡ office
+one_office e db office again s t fit fits =
     let list = gathered (rows_in_edition e office) in
     let at = of_gathered (rows_in_edition e office) in
     let none = none_later e list office at in
     let same = same_rows e db (rows_in_edition e office) (rows_in_edition e again) s.holds t.holds in
     let of : AreRowsOf (migrated_rows e list) office = (rows_migrate e list office none fit).0 (record { same = λ table. IsPermutation-same _ _ (at table); allowed = s.allowed }) in
     let of_again : AreRowsOf (migrated_rows e list) again = (rows_migrate e list again none fits).0 (record { same = λ table. IsPermutation-trans _ _ _ (IsPermutation-same _ _ (at table)) (same table); allowed = t.allowed }) in
-    one again office fits fit (λ table. IsPermutation-trans _ _ _ (IsPermutation-sym _ _ (of_again table)) (of table))
+    rows_determine again office fits fit (λ table. IsPermutation-trans _ _ _ (IsPermutation-sym _ _ (of_again table)) (of table))
 
 -- so do those of two databases with the same trees, in any editions
-same_office : RowsGiveOffice → (e f : AnEdition) (db found : Database) (office again : State) → IsDatabase db → IsDatabase found → found.trees ≡ db.trees → StandsIn e db office → StandsIn f found again → IsFit office → IsFit again
+same_office : (e f : AnEdition) (db found : Database) (office again : State) → IsDatabase db → IsDatabase found → found.trees ≡ db.trees → StandsIn e db office → StandsIn f found again → IsFit office → IsFit again
     → again ≡ office
-same_office one e f db found office again sound here trees s t fit fits = elim (one_or_apart e f) [
-  | inl same ↦ one_office one f found office again
+same_office e f db found office again sound here trees s t fit fits = elim (one_or_apart e f) [
+  | inl same ↦ one_office f found office again
       (subst (λ it. StandsIn it found office) same (record { holds = held; allowed = s.allowed; alone = subst (λ it. HasNoneOf (beyond it) found.schema) (sym same) t.alone })) t fit fits
   | inr (inl apart) ↦ absurd (not_beyond e f found (rows_in_edition e office) (holds_so (rolls_of e) (number_of e) db found (rows_in_edition e office) sound here trees s.holds) apart t.alone)
   | inr (inr apart) ↦ absurd (not_beyond f e db (rows_in_edition f again) (holds_so (rolls_of f) (number_of f) found db (rows_in_edition f again) here sound (sym trees) t.holds) apart s.alone)
@@ -128,12 +129,11 @@ same_office one e f db found office again sound here trees s t fit fits = elim (
     held = holds_so (rolls_of e) (number_of e) db found (rows_in_edition e office) sound here trees s.holds
 
 -- what is opened from the trees alone
-pub opens_again : RowsGiveOffice → (e : AnEdition) (db found opened : Database) (office again : State) → IsDatabase db → IsDatabase found → found.trees ≡ db.trees → StandsIn e db office → IsFit office → IsFit again → Opens found opened again
-    → again ≡ office
-opens_again one e db found opened office again sound here trees stands fit fits (inl made) =
+pub opens_again : OpensAgain
+opens_again e db found opened office again sound here trees stands fit fits (inl made) =
     let held = holds_so (rolls_of e) (number_of e) db found (rows_in_edition e office) sound here trees stands.holds in
     absurd (listed_there Edition held.edition (numbered (number_of e)) found all_tables held.editions (inl refl) made.0)
-opens_again one e db found opened office again sound here trees stands fit fits (inr (inl is)) =
-    same_office one e latest db found office again sound here trees stands (in_latest is.1) fit fits
-opens_again one e db found opened office again sound here trees stands fit fits (inr (inr migrated)) =
-    same_office one e migrated.edition db found office again sound here trees stands migrated.stood fit fits
+opens_again e db found opened office again sound here trees stands fit fits (inr (inl is)) =
+    same_office e latest db found office again sound here trees stands (in_latest is.1) fit fits
+opens_again e db found opened office again sound here trees stands fit fits (inr (inr migrated)) =
+    same_office e migrated.edition db found office again sound here trees stands migrated.stood fit fits

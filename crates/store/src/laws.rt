@@ -2,14 +2,10 @@
 
 ghost use Rattle.store.specs.Laws.{FindsOurs, OpensAgain, OpensOurs, TakesChanges, TakesTables};
 
-use office::changes::rows_law;
-
 /// Tables that stand for an office are opened as that office and no other, from the trees of their database alone.
 pub fn opening_law()
     ensures { OpensAgain }
-{
-    rows_law();
-}
+{}
 
 /// Tables as they are made here take each change of a valid request.
 pub fn available_law()

@@ -178,6 +178,7 @@ fn rows_in<S: Alter>(
 /// Returns the office of rows that were read.
 fn office_from(alloc: Global, rows: Vec<Row>) -> Result<Office, StoreFault>
     ensures rows { IfOk result (λ office. AreRowsOf rows.items office) }
+    ensures fit { IfOk result IsFit }
     ensures unfit { result ≡ Err StoreFault.Damaged → (o : State) → IsFit o → AreRowsOf rows.items o → ⊥ }
     ensures faults { result ≢ Err StoreFault.Storage }
 {
@@ -203,7 +204,5 @@ pub fn office_in<S: Alter>(
     let changes = migrating_changes(alloc, edition, &rows)?;
     let all = migrated_rows(alloc, edition, rows)?;
     let office = office_from(alloc, all)?;
-    // The law that an office is fit.
-    office.fit();
     Ok((office, changes))
 }

@@ -39,7 +39,7 @@ impl<S: Alter> Handler<Desk<S>> for OfficeHandler {
             Ok(request) => {
                 let answer = desk.ask(request);
                 // What a desk keeps between requests is a part of the step.
-                desk.keeps();
+                desk.office();
                 answer_of(self.alloc, answer)
             }
         }

@@ -2,9 +2,9 @@
 
 ghost use Rattle.std.specs.Prelude.{◌≡◌, ◌<◌, ◌≤◌, Contains, All, length, map, IsSome, IfOk, OnOk, OnErr, IsTrue};
 ghost use Rattle.spa.specs.Codes.{code_at};
-ghost use Rattle.spa.specs.Named.{IsFit};
 ghost use Rattle.spa.specs.Inside.Made.{IsRanking};
 ghost use Rattle.spa.specs.Instance.{project_codes};
+ghost use Rattle.office_model.specs.Fit.{IsFit};
 ghost use Rattle.office_model.specs.State.{State, last_round, list_of, round_is_open, choices_in};
 ghost use Rattle.office_model.specs.Instances.{round_instance};
 ghost use Rattle.office_model.specs.Run.{Makes};
@@ -14,10 +14,9 @@ ghost use Rattle.desk.specs.layers.Layers.{layers};
 ghost use Rattle.desk.specs.layers.SessionRounds.{IsSessionOf, MayJoin, IsOneMore};
 
 use office::Office;
-use office::closing::few_law;
 use office_model::{Project, Reply};
 use solver::Session;
-use spa::{Code, Instance, code_law};
+use spa::{Code, Instance};
 use std::alloc::{AllocError, Global};
 
 /// Admits the students of an instance, one after another.
@@ -26,7 +25,6 @@ fn admit_all(session: &mut Session, instance: &Instance) -> Result<(), AllocErro
     ensures all { OnOk result (session.new.shape ≡ instance.now.shape) }
     ensures aim { OnOk result (session.new.aim ≡ session.old.aim) }
 {
-    instance.fit();
     for student in 0..instance.student_count() {
         session.admit(instance.list(student))?;
     }
@@ -39,7 +37,6 @@ pub fn start_session(alloc: Global, office: &Office) -> Result<Session, AllocErr
     ensures mirrors { IfOk result (λ session. IsSessionOf office.now session) }
 {
     let instance = office.instance()?;
-    instance.fit();
     let aim = office.last_aim();
     let mut session = Session::start(alloc, instance.supervisors(), instance.projects(), aim)?;
     admit_all(&mut session, &instance)?;
@@ -50,7 +47,6 @@ pub fn start_session(alloc: Global, office: &Office) -> Result<Session, AllocErr
 pub fn read_preview(session: &Session) -> Reply
     ensures made { (o : State) → IsSessionOf o session.now → Makes layers o request.Preview result o }
 {
-    code_law();
     session.matched();
     Reply::Preview {
         size: session.size(),
@@ -93,8 +89,8 @@ fn positions_of(
 fn list_of(alloc: Global, office: &Office, student: &str) -> Result<Vec<usize>, AllocError>
     requires listed { IsSome (list_of office.now (last_round office.now) student.now) }
     ensures ranking { IfOk result (λ v. IsRanking (project_codes (round_instance office.now)) (choices_in office.now (last_round office.now) student.now) v.items) }
+    ensures fit { IsFit office.now }
 {
-    office.fit();
     match office.list_of(office.last_round(), student) {
         Some(listed) => positions_of(alloc, office.projects(), listed.choices.as_slice()),
         None => unreachable!(),
@@ -114,8 +110,6 @@ pub fn join(
     ensures joined { OnOk result (IsOneMore session.old session.new) }
     ensures memory { OnErr result (session.new ≡ session.old) }
 {
-    office.fit();
-    few_law();
     let list = list_of(alloc, office, student)?;
     session.admit(&list)?;
     Ok(())

@@ -18,7 +18,7 @@ pub use Rattle.office_model.specs.State.{State, choices_in, has_project, is_clos
 pub use Rattle.office_model.specs.Stepping.{by_rank, with_last}
 pub use Rattle.schema.specs.Changes.{TransformsRows, after_change}
 pub use Rattle.schema.specs.declared.row.Change.TheVariants.{Put}
-pub use Rattle.spa.specs.Coded.{CodePair, CodesSayTheSame, IsBestByCodes, IsMatchingByCodes, choices_of, codes_of, offerer_of, places_in, places_with, profile_by_codes, rank_by_codes, taken}
+pub use Rattle.spa.specs.Coded.{CodePair, IsBestByCodes, IsMatchingByCodes, choices_of, codes_of, offerer_of, places_in, places_with, profile_by_codes, rank_by_codes, taken}
 pub use Rattle.spa.specs.Codes.{IsFirstRepeated, code_at}
 pub use Rattle.spa.specs.Instance.{Instance, given, project_codes, projects_of, student_codes, students_of, supervisor_codes, supervisors_of}
 pub use Rattle.spa.specs.Made.{AreDistinct, HasDistinctCodes, IsFirstInstanceFault, IsFirstListFault, IsListFault, IsSoundList, IsWithin}

@@ -14,4 +14,4 @@ pub use Rattle.spa.specs.Coded.{CodePair, IsBestByCodes, IsMatchingByCodes, prof
 pub use Rattle.spa.specs.Instance.{Instance}
 pub use Rattle.spa.specs.Named.{Named, instance_of}
 pub use Rattle.spa.specs.Shape.{IsPlaceOf}
-pub use Rattle.spa.specs.declared.TheConstants.{MAX_PROJECTS, MAX_STUDENTS, MAX_SUPERVISORS}
+pub use Rattle.spa.specs.declared.TheConstants.{MAX_PROJECTS, MAX_SUPERVISORS}

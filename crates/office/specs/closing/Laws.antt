@@ -1,6 +1,6 @@
 -- Laws of rounds that close.
 use Rattle.std.specs.Prelude.{◌≡◌, ◌≤◌, ◌^◌, ℕ, IsTrue, List, map, length, Option}
-use Rattle.office.specs.closing.Common.{MAX_STUDENTS, Instance, CodePair, taken, State, last_round, round_is_open, lists_of, round_instance, IsFit, MayClose, kept, after_close, closed_reply, Placement, Transforms, rows_in}
+use Rattle.office.specs.closing.Common.{Instance, CodePair, taken, State, last_round, round_is_open, lists_of, round_instance, IsFit, MayClose, kept, after_close, closed_reply, Placement, Transforms, rows_in}
 use Rattle.office_model.specs.Answers.{IsClosed}
 use Rattle.office_model.specs.declared.request.Done.{Done}
 use Rattle.office.specs.changes.Allowed.{AreAllowed}
@@ -50,12 +50,3 @@ PlacesClose = (o : State) (ks : List (Option ℕ)) → IsFit o → IsTrue (round
       closed : (done : Done) → done.reply ≡ placed_reply (last_round o) placed → done.changes.items ≡ closing_changes (last_round o) placed
           → IsClosed (taken (round_instance o).students ks) o (after_placing placed o) done;
     }
-
--- a fit office has no more placements than students, and no more lists in a round, so no more than a roll of students has
-abbrev pub AreFew : Type 0
-AreFew = (o : State) → IsFit o → record {
-  placements : length o.placements ≤ length o.students;
-  few_placements : length o.placements ≤ MAX_STUDENTS;
-  lists : (n : ℕ) → length (lists_of o n) ≤ length o.students;
-  few_lists : (n : ℕ) → length (lists_of o n) ≤ MAX_STUDENTS;
-}

@@ -11,7 +11,7 @@ ghost use Rattle.office.specs.closing.Changes as says;
 
 use super::Office;
 use super::placed::ranked;
-use crate::closing::{close_changes, placements_after, placements_of, places_law, round_instance};
+use crate::closing::{close_changes, placements_after, placements_of, round_instance};
 use office_model::{Done, Reply};
 use spa::{Instance, Matching};
 use std::alloc::AllocError;
@@ -50,6 +50,7 @@ impl Office {
     }
 
     /// Closes the open round with a matching of its instance. Out of memory the office stays as it was.
+    #[tactic(auto, using(crate::proofs::closing::PlacesAreRanks::within_lists, crate::proofs::closing::PlacesAreRanks::placed_is_kept))]
     pub fn close(&mut self, matching: &Matching) -> Result<Done, AllocError>
         requires open { IsTrue (round_is_open self.old) }
         requires matching { ArePlacesOf (round_instance self.old) matching.now.places.items }
@@ -57,7 +58,6 @@ impl Office {
         ensures changes { IfOk result (λ done. let changes = done.changes in changes.items ≡ says.close_changes (taken (round_instance self.old).students matching.now.places.items) self.old) }
         ensures err { OnErr result (self.new ≡ self.old) }
     {
-        places_law();
         let round = self.last_round();
         let placed = placements_of(self.alloc, round, self.lists(round), &matching.places)?;
         let reply = Reply::Closed {

@@ -102,7 +102,6 @@ impl Office {
         ensures changes { IfOk result (λ done. let changes = done.changes in changes.items ≡ import_changes id kind bytes rows.items self.old) }
         ensures err { IfErr result (λ refusal. (refusal ≡ Refusal.Memory) ⊎ (rows_refusal 1 self.old rows.items ≡ Some refusal)) }
     {
-        self.fit();
         let count = rows.len() as u32;
         let mut changes = self.make_all(rows)?;
         let import = Import {

@@ -1,7 +1,7 @@
 //! Placements, and what is counted of them.
 
 ghost use Rattle.std.specs.Prelude.{◌≡◌, ◌+◌, ◌<◌, ◌==◌, ◌&&◌, ◌≤◌, ℕ, IsTrue, count_by, length};
-ghost use Rattle.office.specs.Common.{placed_in_project, placed_with_supervisor, by_rank};
+ghost use Rattle.office.specs.Common.{IsFit, placed_in_project, placed_with_supervisor, by_rank};
 ghost use Rattle.spa.specs.declared.TheConstants.{MAX_STUDENTS};
 
 use super::Office;
@@ -13,6 +13,7 @@ impl Office {
     /// Returns the placements of all rounds, by the students' codes.
     pub fn placements(&self) -> &[Placement]
         ensures all { let o = self.now in result.now ≡ o.placements }
+        ensures fit { IsFit self.now }
     {
         self.placements.entries()
     }

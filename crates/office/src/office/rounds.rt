@@ -1,7 +1,7 @@
 //! Rounds, with their lists, and requests that open one.
 
 ghost use Rattle.std.specs.Prelude.{◌≡◌, true, is_some, option_copied, Some, None, IfOk, OnErr};
-ghost use Rattle.office.specs.Common.{aim_key, aim_of, last_round, list_of, lists_of, round_is_open, round_of, plain_refusal, IsDone, changes_of};
+ghost use Rattle.office.specs.Common.{IsFit, aim_key, aim_of, last_round, list_of, lists_of, round_is_open, round_of, plain_refusal, IsDone, changes_of};
 ghost use Rattle.office_model.specs.Roll.{put};
 ghost use Rattle.office_model.specs.declared.request.Plain.TheVariants as ask;
 
@@ -15,6 +15,7 @@ impl Office {
     /// Returns the rounds, by number.
     pub fn rounds(&self) -> &[Round]
         ensures all { let o = self.now in result.now ≡ o.rounds }
+        ensures fit { IsFit self.now }
     {
         self.rounds.entries()
     }
@@ -71,6 +72,7 @@ impl Office {
     /// Returns the aim of a round; greedy where there is no such round.
     pub fn aim_of(&self, round: u32) -> Aim
         ensures aim { result ≡ aim_of self.now round }
+        ensures fit { IsFit self.now }
     {
         match self.aims.by_number(round) {
             Some(entry) => entry.aim,
@@ -81,6 +83,7 @@ impl Office {
     /// Returns the aim of the last round; greedy where there is none.
     pub fn last_aim(&self) -> Aim
         ensures aim { result ≡ aim_of self.now (last_round self.now) }
+        ensures fit { IsFit self.now }
     {
         self.aim_of(self.last_round())
     }

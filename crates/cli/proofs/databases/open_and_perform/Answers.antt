@@ -16,13 +16,13 @@ did g c Done done =
       desk = c.in-Ok.desk;
       found = found_for (state g.S.Store c.args.connection) (state g.S.Store c.in-Ok.desk.store) (state g.S.Store c.perform-status.new.desk.store) c.in-Ok.desk.office was (λ clean. omega (arith, clean, c.in-Ok.ensures.opened.opening.crash.clean)) c.in-Ok.ensures.opened.opening.office;
       opened = c.in-Ok.ensures.opened;
-      fit = c.keeps.ensures.fit;
-      live = c.keeps.ensures.live;
+      fit = c.office.ensures.fit;
+      live = c.office.ensures.live;
       clean = was;
       next = c.perform-status.new.desk;
       done = done;
       given_back = refl;
-      stands = c.keeps-in-Ok.ensures.tables;
+      stands = c.office-in-Ok.ensures.tables;
     })
 
 pub returns-in-Ok-clause-printed : goal.returns-in-Ok-clause-printed

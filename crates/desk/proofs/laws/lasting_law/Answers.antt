@@ -5,4 +5,4 @@ pub returns-clause-ask : goal.returns-clause-ask
 returns-clause-ask g c = ask_lasts g.S.Store
 
 pub returns-clause-office : goal.returns-clause-office
-returns-clause-office g c = office_lasts g.S.Store c.reopening_law.ensures.found c.reopening_law.ensures.opens
+returns-clause-office g c = office_lasts g.S.Store

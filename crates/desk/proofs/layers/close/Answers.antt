@@ -5,7 +5,7 @@ use Rattle.spa.specs.Matched.{pairs, IsMatched}
 use Rattle.office_model.specs.Answers.{IsClosed}
 use Rattle.office_model.specs.declared.request.Done.{Done}
 use Rattle.office.specs.closing.Places.{ArePlacesOf, AreTaken}
-use Rattle.office.specs.closing.Laws.{PlacesAreTaken}
+use Rattle.office.proofs.closing.PairsByCode.{places_taken}
 use Rattle.std.proofs.Common.{IfOk, List, subst}
 use Rattle.office_model.specs.Run.{Makes}
 use Rattle.office_model.specs.declared.request.Request.TheVariants as request
@@ -27,25 +27,25 @@ changes_so o M may best (Ok done) same = (M, may, best, same)
 changes_so o M may best (Err e) same = same
 
 -- the pairs that are taken at the places of a best matching are one of the open round, by codes
-taken_best : PlacesAreTaken → (o : State) (aim : Aim) → aim ≡ aim_of o (last_round o) → (i : Named) (ks : List (Option ℕ)) → IsFit i → instance_of i ≡ round_instance o → IsMatched i.shape ks → IsBest aim i.shape (pairs i.shape ks) → IsTrue (round_is_open o)
+taken_best : (o : State) (aim : Aim) → aim ≡ aim_of o (last_round o) → (i : Named) (ks : List (Option ℕ)) → IsFit i → instance_of i ≡ round_instance o → IsMatched i.shape ks → IsBest aim i.shape (pairs i.shape ks) → IsTrue (round_is_open o)
     → MayClose o (taken (round_instance o).students ks) × IsBestByCodes (aim_of o (last_round o)) (round_instance o) (taken (round_instance o).students ks)
-taken_best law o aim is i ks fit same matched best is_open =
+taken_best o aim is i ks fit same matched best is_open =
     let are : ArePlacesOf (round_instance o) ks = record { instance = i; fit = fit; same = same; matched = matched } in
-    let so : AreTaken i (round_instance o) ks = law (round_instance o) ks are in
+    let so : AreTaken i (round_instance o) ks = places_taken (round_instance o) ks are in
     (record { is_open = is_open; matching = so.matching }, subst (λ (a : Aim). IsBestByCodes a (round_instance o) (taken (round_instance o).students ks)) is (so.best aim best))
 
 pub returns-clause-made : goal.returns-clause-made
 returns-clause-made c =
     let o : State = c.args.office.now in
     let ks = c.in_ok-solved.solved.matching.places.items in
-    let found = taken_best c.places_law.ensures.taken o c.last_aim-aim.result c.last_aim-aim.ensures.aim c.in_ok-instance.instance ks c.fit.ensures c.in_ok-instance.ensures.instance c.in_ok-solved.ensures.proved.matched c.in_ok-solved.ensures.best c.requires.open in
+    let found = taken_best o c.last_aim-aim.result c.last_aim-aim.ensures.aim c.in_ok-instance.instance ks c.fit.ensures c.in_ok-instance.ensures.instance c.in_ok-solved.ensures.proved.matched c.in_ok-solved.ensures.best c.requires.open in
     closes o _ (taken (round_instance o).students ks) found.0 found.1 _ c.close.ensures.ok
 
 pub returns-clause-changes : goal.returns-clause-changes
 returns-clause-changes c =
     let o : State = c.args.office.now in
     let ks = c.in_ok-solved.solved.matching.places.items in
-    let found = taken_best c.places_law.ensures.taken o c.last_aim-aim.result c.last_aim-aim.ensures.aim c.in_ok-instance.instance ks c.fit.ensures c.in_ok-instance.ensures.instance c.in_ok-solved.ensures.proved.matched c.in_ok-solved.ensures.best c.requires.open in
+    let found = taken_best o c.last_aim-aim.result c.last_aim-aim.ensures.aim c.in_ok-instance.instance ks c.fit.ensures c.in_ok-instance.ensures.instance c.in_ok-solved.ensures.proved.matched c.in_ok-solved.ensures.best c.requires.open in
     changes_so o (taken (round_instance o).students ks) found.0 found.1 _ c.close.ensures.changes
 
 pub close-requires-clause-matching : goal.close-requires-clause-matching

@@ -7,7 +7,7 @@ use Rattle.desk.proofs.layers.round_text.Goals as goal
 pub instance_text-requires : goal.instance_text-requires
 instance_text-requires c =
     let o : State = c.args.office.now in
-    record { round = last_round o; with_supervisor = placed_with_supervisor o; in_project = placed_in_project o; same = c.in_ok-instance.ensures.instance }
+    record { office = o; fit = c.last_aim.ensures.fit; round = last_round o; with_supervisor = placed_with_supervisor o; in_project = placed_in_project o; same = c.in_ok-instance.ensures.instance }
 
 pub returns : goal.returns
 returns c =

@@ -8,7 +8,7 @@ use Rattle.reports.proofs.places_report.by_supervisor.Goals as goal
 
 pub counted-counts-requires-clause-few : goal.counted-counts-requires-clause-few
 counted-counts-requires-clause-few c =
-    let few = placements_few c.args.office.now c.fit.ensures.fit in
+    let few = placements_few c.args.office.now c.placements.ensures.fit in
     let same = ap (λ (ps : List Placement). length ps) c.placements.ensures.all in
     omega (arith, few, same)
 

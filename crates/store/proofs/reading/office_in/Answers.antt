@@ -10,7 +10,7 @@ returns-clause-ok g c clean =
     let office = c.in_ok-office.office in
     let made : c.in_ok-changes.changes.items ≡ migrating_changes e rows = rw c.deref.ensures.value at c.in_ok-changes.ensures in
     subst (λ (changes : List Change). FindsOffice e office changes (state g.S.Store c.args.conn.now) (state g.S.Store c.rows_in.new.conn)) (sym made)
-    (found_in e rows office _ _ (c.in_ok-rows.ensures.rows clean) c.fit.ensures.fit (subst (λ (it : List RowOf). AreRowsOf it office) c.in_ok-all.ensures c.in_ok-office.ensures.rows))
+    (found_in e rows office _ _ (c.in_ok-rows.ensures.rows clean) c.in_ok-office.ensures.fit (subst (λ (it : List RowOf). AreRowsOf it office) c.in_ok-all.ensures c.in_ok-office.ensures.rows))
 
 pub returns-in_err-office-clause-damaged : goal.returns-in_err-office-clause-damaged
 returns-in_err-office-clause-damaged g c clean h o fit stands =

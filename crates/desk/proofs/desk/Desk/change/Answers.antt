@@ -15,13 +15,13 @@ next_session-requires g c =
     let o : State = c.args.self.now.office in
     let n : State = c.change.new.self.office in
     let outer = ap (λ k. k.office) c.self.view_is in
-    let same = ap (λ d. let persistent = d.persistent in persistent.office) c.self-inside.view_is ∙ outer in
+    let same = c.office.ensures.same in
     let made : Makes layers o q c.in_ok-reply.reply n = subst (λ (x : State). Makes layers x q c.in_ok-reply.reply n) outer c.in_ok-reply.ensures.step.1 in
     record {
       meets = met_so (effect_of o q) c.in_ok-effect.effect n _ c.args.self.now.session c.take-kept.result
-          (sym (c.in_ok-effect.ensures ∙ ap (λ (x : State). effect_of x q) same)) (sym (ap (λ d. let persistent = d.persistent in persistent.office) c.self-inside-2.view_is))
-          (sym (c.take-kept.ensures.value ∙ ap (λ d. d.session) c.self-inside-2.view_is ∙ ap (λ k. k.session) c.self.view_is))
-          (meets o n q c.in_ok-reply.reply c.args.self.now.session c.keeps.ensures.fit c.requires.allowed c.requires.change made c.keeps.ensures.mirrors);
+          (sym (c.in_ok-effect.ensures ∙ ap (λ (x : State). effect_of x q) same)) (sym (ap (λ d. let persistent = d.persistent in persistent.office) c.self-inside.view_is))
+          (sym (c.take-kept.ensures.value ∙ ap (λ d. d.session) c.self-inside.view_is ∙ ap (λ k. k.session) c.self.view_is))
+          (meets o n q c.in_ok-reply.reply c.args.self.now.session c.office.ensures.fit c.requires.allowed c.requires.change made c.office.ensures.mirrors);
     }
 
 pub returns-in_err-effect-clause-saved : goal.returns-in_err-effect-clause-saved

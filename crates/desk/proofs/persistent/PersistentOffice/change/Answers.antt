@@ -25,7 +25,7 @@ hindered_by storage result office next q done old new carried may transforms cau
 
 pub exchange-requires : goal.exchange-requires
 exchange-requires g c =
-    let same = c.in_ok-next.ensures.same ∙ ap (λ k. k.office) c.self.view_is in
+    let same = c.in_ok-next.ensures.same ∙ c.office.ensures.same in
     record { transforms = subst (λ (o : State). Transforms c.in-Ok.done.changes.items o c.make_change.new.office) same c.in-Ok.ensures.transforms }
 
 pub returns-clause-saved : goal.returns-clause-saved
@@ -35,22 +35,22 @@ returns-clause-saved g c =
     let next : State = c.make_change.new.office in
     let done = c.in-Ok.done in
     let saved = c.exchange.ensures.saved in
-    let same = c.in_ok-next.ensures.same ∙ ap (λ k. k.office) c.self.view_is in
+    let same = c.in_ok-next.ensures.same ∙ c.office.ensures.same in
     let made = subst (λ (o : State). Makes layers o q done.reply next) same c.in-Ok.ensures.made.1 in
     let none = subst (λ (o : State). refusal layers o q ≡ None) same c.in-Ok.ensures.made.0 in
     let transforms = subst (λ (o : State). Transforms done.changes.items o next) same c.in-Ok.ensures.transforms in
     let may = subst (λ (o : State). MayChange o q done.changes.items) same c.in-Ok.ensures.changes in
-    let few = may_allowed old q done.changes.items c.keeps.ensures.fit none may in
+    let few = may_allowed old q done.changes.items c.office.ensures.fit none may in
     record {
-      crash = call_carried q old next done (state g.S.Store c.args.self.now.store) (state g.S.Store c.exchange.new.self.store) none made c.fit.ensures.fit transforms c.keeps.ensures.tables saved.crash;
+      crash = call_carried q old next done (state g.S.Store c.args.self.now.store) (state g.S.Store c.exchange.new.self.store) none made c.fit.ensures.fit transforms c.office.ensures.tables saved.crash;
       alone = λ _. saved.alone;
       stays_open = λ _. saved.stays_open;
       stays_shut = saved.stays_shut;
       acted_on = λ _. saved.acted_on;
       cause = λ quiet. hindered_by Storage c.exchange.result old next q done (state g.S.Store c.args.self.now.store) (state g.S.Store c.exchange.new.self.store) (done.reply, (none, made)) may transforms (saved.cause quiet);
-      available = available_so old done.changes.items c.available_law.ensures c.exchange.result (state g.S.Store c.args.self.now.store) (state g.S.Store c.exchange.new.self.store) c.keeps.ensures.fit c.keeps.ensures.tables c.keeps.ensures.live
+      available = available_so old done.changes.items c.exchange.result (state g.S.Store c.args.self.now.store) (state g.S.Store c.exchange.new.self.store) c.office.ensures.fit c.office.ensures.tables c.office.ensures.live
           few transforms.fresh (λ clean. omega (arith, saved.crash.clean, clean)) saved.cause;
-      ours = ours_so old done.changes.items (state g.S.Store c.args.self.now.store) (state g.S.Store c.exchange.new.self.store) c.keeps.ensures.tables c.keeps.ensures.live few (λ clean. omega (arith, saved.crash.clean, clean)) saved.stays_shut saved.stays;
+      ours = ours_so old done.changes.items (state g.S.Store c.args.self.now.store) (state g.S.Store c.exchange.new.self.store) c.office.ensures.tables c.office.ensures.live few (λ clean. omega (arith, saved.crash.clean, clean)) saved.stays_shut saved.stays;
     }
 
 pub returns-in-Err-clause-saved : goal.returns-in-Err-clause-saved

@@ -4,6 +4,7 @@ use Rattle.spa.specs.Coded.{taken}
 use Rattle.office.specs.closing.Places.{placed_by}
 use Rattle.office.specs.closing.Changes.{after_placing, closing_changes, placed_reply}
 use Rattle.office.proofs.Made.{last_put}
+use Rattle.office.proofs.closing.TakenPairs.{places_close}
 use Rattle.office.proofs.office.Office.close.Goals as goal
 use Rattle.office.proofs.office.Office.close.Goals.{Joined-self-placements}
 
@@ -23,13 +24,13 @@ after c =
 
 pub invariant_of-self-2 : goal.invariant_of-self-2
 invariant_of-self-2 c =
-    let law = c.places_law.ensures.close c.args.self.now c.args.matching.now.places.items (subst IsFit c.self.view_is c.self.invariant) c.requires.open c.requires.matching c.in_ok-placed.placed.items (made c) in
+    let law = places_close c.args.self.now c.args.matching.now.places.items (subst IsFit c.self.view_is c.self.invariant) c.requires.open c.requires.matching c.in_ok-placed.placed.items (made c) in
     subst IsFit (sym (after c)) law.fit
 
 pub returns-clause-ok : goal.returns-clause-ok
 returns-clause-ok c =
     let old : State = c.args.self.now in
-    let law = c.places_law.ensures.close old c.args.matching.now.places.items (subst IsFit c.self.view_is c.self.invariant) c.requires.open c.requires.matching c.in_ok-placed.placed.items (made c) in
+    let law = places_close old c.args.matching.now.places.items (subst IsFit c.self.view_is c.self.invariant) c.requires.open c.requires.matching c.in_ok-placed.placed.items (made c) in
     let size = c.len.ensures ∙ c.in_ok-placed.placed.ok.0 in
     let counts = c.ranked.ensures ∙ (λ i. by_rank (λ k. count_by (λ p. (p.round == c.last_round-round.ensures i) && (p.rank == k + 1)) (c.deref-2.ensures.value i))) in
     let answered : reply.Closed c.last_round-round.result c.len.result c.ranked.result ≡ placed_reply (last_round old) c.in_ok-placed.placed.items = λ i. reply.Closed (c.last_round-round.ensures i) (size i) (counts i) in

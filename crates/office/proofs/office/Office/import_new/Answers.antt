@@ -1,4 +1,4 @@
-use Rattle.office.proofs.Common.{◌&&◌, not, nat_le, false, MAX_IMPORTS, Import, Add, State, has_import, with_import, ◌≡◌, ℕ, ◌∷◌, [], ◌++◌, sym, ap, subst, ◌∙◌, List, length}
+use Rattle.office.proofs.Common.{◌&&◌, not, nat_le, false, MAX_IMPORTS, Import, Add, State, IsFit, has_import, with_import, ◌≡◌, ℕ, ◌∷◌, [], ◌++◌, sym, ap, subst, ◌∙◌, List, length}
 use Rattle.office_model.specs.declared.request.Reply.TheVariants as reply
 use Rattle.office.proofs.ImportRows.{import_added, still_room, import_made}
 use Rattle.office.proofs.office.Office.import_new.Goals.{After-drop-id-inside-2}
@@ -25,5 +25,5 @@ pub returns-clause-ok : goal.returns-clause-ok
 returns-clause-ok c =
     let mid : State = c.make_all.new.self in
     import_made c.args.id c.args.kind c.args.bytes c.args.rows.items c.args.self.now c.requires.allowed c.requires.free mid c.in_ok-changes.changes.items c.in_ok-changes.ensures.ok
-    c.fit.ensures.fit.imports.rise c.keep.new.self (c.in_ok-keep.ensures ∙ ap (λ m. with_import m mid) (made c))
+    (subst IsFit c.self.view_is c.self.invariant).imports.rise c.keep.new.self (c.in_ok-keep.ensures ∙ ap (λ m. with_import m mid) (made c))
     (record { reply = reply.Rows c.len-count.result; changes = c.push.new.self }) (ap reply.Rows (c.len-count.ensures ∙ c.args.rows.ok.0)) (last c)
