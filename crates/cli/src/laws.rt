@@ -17,7 +17,8 @@ pub fn printed_law<W: World, O: Sink, E: Sink>(world: &W, outputs: &Outputs<O, E
     ensures printed { (words : List (List ℕ)) (came : Came W.File W.File.Disk) (new : _) (status : Status) → WordsAt (W.state world.now) words came outputs.now new status → Prints (ComesTo words) outputs.now new status }
 {}
 
-/// `spadesk solve round.txt` opens no database, and what it prints comes of what its world says of that file, in whatever world it was done.
+/// `spadesk solve round.txt` opens no database, and what it prints comes of what its world says of that file, in whatever world it was
+/// done.
 pub fn solve_law<W: World, O: Sink, E: Sink>(world: &W, outputs: &Outputs<O, E>)
     ensures no_file { (came : Came W.File W.File.Disk) (new : _) (status : Status) → WordsAt (W.state world.now) solve_words came outputs.now new status → came ≡ None }
     ensures printed { (came : Came W.File W.File.Disk) (new : _) (status : Status) → WordsAt (W.state world.now) solve_words came outputs.now new status → Prints (SolvesIn (let at = W.state world.now in at.holds)) outputs.now new status }
