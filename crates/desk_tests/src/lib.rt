@@ -19,6 +19,9 @@ mod files;
 // Helper: a world in memory.
 #[cfg(test)]
 mod in_memory;
+// A world in memory of which all is known, and a command there, of which a clause says what it prints.
+#[cfg(test)]
+mod known;
 // A file and connections on loopback: what the machine does of itself.
 #[cfg(test)]
 mod machine;
