@@ -54,8 +54,8 @@ world_of g words name text disks calls = record {
   ports = port_of calls;
 }
 
--- What `spadesk solve round.txt` prints in a world whose one file has this name and these bytes: the refusal of memory that ran out, or what
--- comes of solving these bytes where it is that file, and where it is another one the refusal of a file that is not read.
+-- What `spadesk solve round.txt` prints in a world whose one file has this name and these bytes: the refusal of memory that ran out, or
+-- what comes of solving these bytes where it is that file, and where it is another one the refusal of a file that is not read.
 abbrev pub Tells : List ℕ → List ℕ → Outcome → Type 0
 Tells name text o =
     (o ≡ refused no.Memory) ⊎ (((codes "round.txt" ≡ name) × SolvesText text o) ⊎ ((codes "round.txt" ≢ name) × (o ≡ refused no.Storage)))

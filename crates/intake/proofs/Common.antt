@@ -4,7 +4,7 @@ pub use Rattle.intake.specs.Inside.PartialRound.{AreComplete, AreFirstPrices, Ar
 pub use Rattle.intake.specs.Lines.{Priced, Row, Section, aim_rows, choice_code, ended, has_line, instance_text, is_zero_price, line, lines_of, pair_row, pair_rows, price_row, price_rows, price_section, priced, project_row, public_text, round_text, row_before, rows_where, section_lines, sections, student_letter, student_row, supervisor_row, text_of}
 pub use Rattle.intake.specs.Parts.{ArePartsOf, ArePricesOrNone, ArePricesUpTo, IsInstance, IsListOf, IsPlace, IsPrice, IsPublicText, IsRoll, IsRoundParts, Parts, Rise, code_cmp, least_listed, most_listed}
 pub use Rattle.intake.specs.Reading.{BeginsLines, IsFaultOf, IsFirstBadLine, IsReadBack, IsReading, pieces}
-pub use Rattle.intake.specs.Public.{IsPublicParts, IsPublicReading, posted_parts, public_read, told_list}
+pub use Rattle.intake.specs.Public.{IsPublicParts, IsPublicReading, posted_parts, public_read, assigned_list}
 pub use Rattle.intake.specs.View.{alone, parts_read, proved, written}
 pub use Rattle.intake.specs.declared.TheConstants.{MAX_BYTES}
 pub use Rattle.intake.specs.declared.section.Kind.{Kind}

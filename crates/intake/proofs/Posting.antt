@@ -1,6 +1,6 @@
 -- Rolls as they were read, posted entry by entry.
 use Rattle.std.proofs.Common.{◌≡◌, ℕ, suc, ◌+◌, ◌-◌, ◌<◌, ◌≤◌, ℤ, Vec, Global, List, [], ◌∷◌, ◌++◌, length, map, get_or, take, replicate, slice_get, Option, Some, None, IfSome, All, Contains, refl, sym, ap, ◌∙◌, subst, arith, codes}
-use Rattle.intake.proofs.Common.{Aim, Code, get_or-map, All-push, All-append, All-replicate, AllInRange, get_or_default, length-append, length-map, length-replicate, length_push, map_push, take_more, Finds, IsPrice, ArePricesUpTo, Instance, Supervisor, Project, Student, supervisors_of, projects_of, students_of, supervisors_named, projects_named, students_named, code_at, Public, IsInstance, IsListOf, Parts, Row, line, lines_of, aim_rows, supervisor_row, project_row, student_row, pair_rows, price_rows, IsDraft, IsPublicParts, draft_of, public_read, told_list, zeros}
+use Rattle.intake.proofs.Common.{Aim, Code, get_or-map, All-push, All-append, All-replicate, AllInRange, get_or_default, length-append, length-map, length-replicate, length_push, map_push, take_more, Finds, IsPrice, ArePricesUpTo, Instance, Supervisor, Project, Student, supervisors_of, projects_of, students_of, supervisors_named, projects_named, students_named, code_at, Public, IsInstance, IsListOf, Parts, Row, line, lines_of, aim_rows, supervisor_row, project_row, student_row, pair_rows, price_rows, IsDraft, IsPublicParts, draft_of, public_read, assigned_list, zeros}
 use Rattle.intake.specs.declared.draft.PartialRound.{PartialRound}
 use Rattle.intake.specs.declared.public_parts.PublicParts.{PublicParts}
 use Rattle.intake.specs.Inside.Posting.{ArePostedProjects, ArePostedStudents, ArePostedSupervisors}
@@ -36,11 +36,11 @@ projects_push ss (d ∷ cs) (x ∷ ps) c p h = ap (λ (l : List Project). record
 
 -- one student more
 pub students_push : (ps cs : List (List ℕ)) (ts : List (Option ℕ)) (c : List ℕ) (t : Option ℕ) → length cs ≡ length ts
-    → students_named ps (cs ++ c ∷ []) (map told_list (ts ++ t ∷ [])) ≡ students_named ps cs (map told_list ts) ++ record { code = c; list = map (code_at ps) (told_list t) } ∷ []
+    → students_named ps (cs ++ c ∷ []) (map assigned_list (ts ++ t ∷ [])) ≡ students_named ps cs (map assigned_list ts) ++ record { code = c; list = map (code_at ps) (assigned_list t) } ∷ []
 students_push ps [] [] c t h = refl
 students_push ps [] (x ∷ ts) c t h = absurd (omega arith)
 students_push ps (d ∷ cs) [] c t h = absurd (omega arith)
-students_push ps (d ∷ cs) (x ∷ ts) c t h = ap (λ (l : List Student). record { code = d; list = map (code_at ps) (told_list x) } ∷ l) (students_push ps cs ts c t (omega arith))
+students_push ps (d ∷ cs) (x ∷ ts) c t h = ap (λ (l : List Student). record { code = d; list = map (code_at ps) (assigned_list x) } ∷ l) (students_push ps cs ts c t (omega arith))
 
 -- a supervisor of this code and quota
 abbrev supervisor : List ℕ → ℕ → Supervisor
@@ -76,15 +76,15 @@ project_posted known roll n a b g c o cs ds os ys h first here p e f =
 
 -- a student
 pub student_posted : (known : List (List ℕ)) (roll : List (List ℕ × Vec Code Global)) (n m : ℕ) (a b : List ℕ × Vec Code Global) (c : List ℕ) (t : Option ℕ) (cs ds : List (List ℕ)) (ts ys : List (Option ℕ)) → n < length roll → c ≡ (get_or roll n a).0
-    → map (code_at known) (told_list t) ≡ (get_or roll n b).1.items → m ≡ length known → IfSome t (λ p. p < m) → ArePostedStudents known (take n (map (λ e. (e.0, e.1.items)) roll)) cs ts → ds ≡ cs ++ c ∷ [] → ys ≡ ts ++ t ∷ []
+    → map (code_at known) (assigned_list t) ≡ (get_or roll n b).1.items → m ≡ length known → IfSome t (λ p. p < m) → ArePostedStudents known (take n (map (λ e. (e.0, e.1.items)) roll)) cs ts → ds ≡ cs ++ c ∷ [] → ys ≡ ts ++ t ∷ []
     → ArePostedStudents known (take (n + 1) (map (λ e. (e.0, e.1.items)) roll)) ds ys
-student_posted known roll n m a b c t cs ds ts ys h first told many within p e f =
+student_posted known roll n m a b c t cs ds ts ys h first assigned many within p e f =
     let entry : List ℕ × Vec Code Global → List ℕ × List (List ℕ) = λ e. (e.0, e.1.items) in
-    let second : map (code_at known) (told_list t) ≡ (get_or roll n a).1.items = told ∙ ap (λ (x : List ℕ × Vec Code Global). x.1.items) (get_or_default roll n b a h) in
+    let second : map (code_at known) (assigned_list t) ≡ (get_or roll n a).1.items = assigned ∙ ap (λ (x : List ℕ × Vec Code Global). x.1.items) (get_or_default roll n b a h) in
     let at : get_or (map entry roll) n (entry a) ≡ entry (get_or roll n a) = get_or-map entry roll n a (entry a) h in
-    let more = posted_more (λ cs ts. students_named known cs (map told_list ts)) (λ x t. student x (map (code_at known) (told_list t))) (λ e. student e.0 e.1) (students_push known) (map entry roll) n (entry a) cs ds ts ys c t
+    let more = posted_more (λ cs ts. students_named known cs (map assigned_list ts)) (λ x t. student x (map (code_at known) (assigned_list t))) (λ e. student e.0 e.1) (students_push known) (map entry roll) n (entry a) cs ds ts ys c t
     (omega (arith, h, length-map roll entry)) p.one_each p.same e f
-    (ap (λ (x : List ℕ). student x (map (code_at known) (told_list t))) first ∙ ap (student (get_or roll n a).0) second ∙ ap (λ (x : List ℕ × List (List ℕ)). student x.0 x.1) (sym at)) in
+    (ap (λ (x : List ℕ). student x (map (code_at known) (assigned_list t))) first ∙ ap (student (get_or roll n a).0) second ∙ ap (λ (x : List ℕ × List (List ℕ)). student x.0 x.1) (sym at)) in
     record {
       one_each = more.0;
       same = more.1;
@@ -93,15 +93,15 @@ student_posted known roll n m a b c t cs ds ts ys h first told many within p e f
     }
 
 -- what was found of the one code that stands in the place of a list
-pub told_found : (known list : List (List ℕ)) (n : ℕ) (c : List ℕ) (o : Option ℕ) → IsListOf Public known list → n ≡ length known → slice_get list 0 ≡ Some c → Finds known n c o
-    → (map (code_at known) (told_list o) ≡ list) × IfSome o (λ p. p < n)
-told_found known [] n c o l many here found = cc
-told_found known (x ∷ y ∷ list) n c o l many here found = absurd (omega (arith, l.0.1))
-told_found known (x ∷ []) n c None l many here found =
+pub assigned_found : (known list : List (List ℕ)) (n : ℕ) (c : List ℕ) (o : Option ℕ) → IsListOf Public known list → n ≡ length known → slice_get list 0 ≡ Some c → Finds known n c o
+    → (map (code_at known) (assigned_list o) ≡ list) × IfSome o (λ p. p < n)
+assigned_found known [] n c o l many here found = cc
+assigned_found known (x ∷ y ∷ list) n c o l many here found = absurd (omega (arith, l.0.1))
+assigned_found known (x ∷ []) n c None l many here found =
     let at = standing known x (l.1.known 0 x (omega arith) refl) in
     let same : x ≡ c = cc in
     absurd (found at.0 (omega (arith, at.1)) (at.2 ∙ ap Some same))
-told_found known (x ∷ []) n c (Some p) l many here found =
+assigned_found known (x ∷ []) n c (Some p) l many here found =
     let same : x ≡ c = cc in
     (ap (λ (y : List ℕ). y ∷ []) (get_found known p c [] found.1 ∙ sym same), found.0)
 
@@ -214,7 +214,7 @@ instance_made : (d : PartialRound) (r : PublicParts) → IsMade d r → (public_
 instance_made d r m =
     let ss = supervisors_made d r m in
     let ps = projects_made d r m in
-    let ts : List (List ℕ) → List Student = λ (l : List (List ℕ)). students_named l r.students.items (map told_list r.posted.students.items) in
+    let ts : List (List ℕ) → List Student = λ (l : List (List ℕ)). students_named l r.students.items (map assigned_list r.posted.students.items) in
     ap (λ (l : List Supervisor). rolls l (projects_named r.supervisors.items r.projects.items r.posted.projects.items) (ts r.projects.items)) m.supervisors.same
     ∙ ap (λ (l : List (List ℕ)). rolls (supervisors_of d.supervisors.items) (projects_named l r.projects.items r.posted.projects.items) (ts r.projects.items)) ss
     ∙ ap (λ (l : List Project). rolls (supervisors_of d.supervisors.items) l (ts r.projects.items)) m.projects.same
@@ -281,7 +281,7 @@ made_parts d r draft m =
     named_students_count : (r : PublicParts) → length r.students.items ≡ length r.posted.students.items → length (public_read r).instance.students ≡ length r.students.items
     named_students_count r h = go r.projects.items r.students.items r.posted.students.items h
       where
-        go : (ps cs : List (List ℕ)) (ts : List (Option ℕ)) → length cs ≡ length ts → length (students_named ps cs (map told_list ts)) ≡ length cs
+        go : (ps cs : List (List ℕ)) (ts : List (Option ℕ)) → length cs ≡ length ts → length (students_named ps cs (map assigned_list ts)) ≡ length cs
         go ps [] ts h = refl
         go ps (c ∷ cs) [] h = absurd (omega arith)
         go ps (c ∷ cs) (t ∷ ts) h = ap suc (go ps cs ts (omega arith))

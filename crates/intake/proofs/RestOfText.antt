@@ -1,6 +1,6 @@
 -- What is left to write.
 use Rattle.std.proofs.Common.{◌≡◌, ℕ, suc, Bool, false, cond, ◌+◌, ◌-◌, ◌<◌, ◌≤◌, ℤ, List, [], ◌∷◌, ◌++◌, length, get_or, map, drop, codes, Option, Some, None, flat_map, refl, sym, ap, ◌∙◌, subst, inl, inr, decimal, arith, append_assoc, append-nil, add-one, drop-cons}
-use Rattle.intake.proofs.Common.{signed_decimal, cases_lt, get_or-map, drop_all, Aim, IsPlaceOf, choice_at, code_at, flat_map-append, supervisor_codes, project_codes, student_codes, Named, IsFit, instance_of, supervisors_named, projects_named, students_named, Prices, proved, sections, instance_text, round_text, line, ended, section_lines, aim_rows, supervisor_row, project_row, student_row, pair_rows, price_rows, Kind, Round, Public, Project, Row, Student, HasLine, has_line, pair_row, posted_parts, price_row, public_text, row_before, told_list}
+use Rattle.intake.proofs.Common.{signed_decimal, cases_lt, get_or-map, drop_all, Aim, IsPlaceOf, choice_at, code_at, flat_map-append, supervisor_codes, project_codes, student_codes, Named, IsFit, instance_of, supervisors_named, projects_named, students_named, Prices, proved, sections, instance_text, round_text, line, ended, section_lines, aim_rows, supervisor_row, project_row, student_row, pair_rows, price_rows, Kind, Round, Public, Project, Row, Student, HasLine, has_line, pair_row, posted_parts, price_row, public_text, row_before, assigned_list}
 use Rattle.public_result.specs.declared.posted.Posted.{Posted}
 use Rattle.intake.proofs.Where.{no_rows}
 
@@ -21,8 +21,8 @@ abbrev pub student_text : List (List ℕ) → List (List ℕ) → List (List ℕ
 student_text projects cs lists = ended (section_lines (record { letter = codes "C"; rows = map student_row (students_named projects cs lists) }))
 
 -- of what some students are assigned
-abbrev pub told_text : List (List ℕ) → List (List ℕ) → List (Option ℕ) → List ℕ
-told_text projects cs ts = ended (section_lines (record { letter = codes "R"; rows = map student_row (students_named projects cs (map told_list ts)) }))
+abbrev pub assigned_text : List (List ℕ) → List (List ℕ) → List (Option ℕ) → List ℕ
+assigned_text projects cs ts = ended (section_lines (record { letter = codes "R"; rows = map student_row (students_named projects cs (map assigned_list ts)) }))
 
 -- the lines of the pairs of some students
 abbrev pub pair_text : List (List ℕ) → List (List ℕ) → List (List ℕ) → List (Option ℕ) → List ℕ
@@ -183,7 +183,7 @@ six out x0 x1 x2 x3 x4 x5 a b c d e f h0 ha hb hc hd he hf = rw (hf, he, hd, hc,
 -- the lines of what is posted, written in order
 pub posted_written : (aim : Aim) (ss ps ts : List (List ℕ)) (t : Posted) (out x0 x1 x2 x3 x4 x5 : List ℕ) → length ss ≡ length t.supervisors.items → length ps ≡ length t.projects.items → out ≡ []
     → x0 ≡ out ++ ended (section_lines (record { letter = codes "A"; rows = aim_rows aim }))
-    → x1 ≡ x0 ++ supervisor_text ss t.supervisors.items → x2 ≡ x1 ++ project_text ss ps t.projects.items → x3 ≡ x2 ++ told_text ps ts t.students.items
+    → x1 ≡ x0 ++ supervisor_text ss t.supervisors.items → x2 ≡ x1 ++ project_text ss ps t.projects.items → x3 ≡ x2 ++ assigned_text ps ts t.students.items
     → x4 ≡ x3 ++ price_text Public (codes "Y") ps t.project_prices.items → x5 ≡ x4 ++ price_text Public (codes "Z") ss t.supervisor_prices.items
     → x5 ≡ public_text (posted_parts aim ss ps ts t)
 posted_written aim ss ps ts t out x0 x1 x2 x3 x4 x5 hs hp h0 ha hb hc hd he hf =
@@ -196,7 +196,7 @@ posted_written aim ss ps ts t out x0 x1 x2 x3 x4 x5 hs hp h0 ha hb hc hd he hf =
     ∙ ap (λ (zs : List (List ℕ)). all (pair_rows students []) (price_rows Public (map (λ (e : Student). e.code) students) []) (map (λ (e : Project). e.code) (projects_named ss ps t.projects.items)) zs) (sym (named_supervisors ss t.supervisors.items hs))
   where
     students : List Student
-    students = students_named ps ts (map told_list t.students.items)
+    students = students_named ps ts (map assigned_list t.students.items)
 
     all : List Row → List Row → List (List ℕ) → List (List ℕ) → List ℕ
     all m u ys zs = ended (map (line (codes "A")) (aim_rows aim) ++ (map (line (codes "S")) (map supervisor_row (supervisors_named ss t.supervisors.items)) ++ (map (line (codes "P")) (map project_row (projects_named ss ps t.projects.items))

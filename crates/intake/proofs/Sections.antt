@@ -67,9 +67,9 @@ both true b h = (refl, h)
 both false b h = cc
 
 -- a test that is said to fail fails
-told : (b : Bool) → not b ≡ true → b ≡ false
-told true h = cc
-told false h = refl
+not_so : (b : Bool) → not b ≡ true → b ≡ false
+not_so true h = cc
+not_so false h = refl
 
 -- the first row of a section and those after it
 first_of : (l : List ℕ) (rows : List Row) (rest : List (List (List ℕ))) (x : List ℕ) (b : Row) (more : List (List (List ℕ))) → map (λ r. l ∷ r) rows ++ rest ≡ (x ∷ b) ∷ more → ((rows ≡ []) × (rest ≡ (x ∷ b) ∷ more)) ⊎ (l ≡ x)
@@ -145,7 +145,7 @@ next_section (s ∷ ss) (d ∷ ds) l r rest h same a b =
     let sa = both (not (has_letter s.letter ss)) (are_apart ss) a in
     let da = both (not (has_letter d.letter ds)) (are_apart ds) b in
     let e : map (λ r. s.letter ∷ r) s.rows ++ full ss ≡ (map (λ r. s.letter ∷ r) d.rows ++ full ds) ++ (l ∷ r) ∷ rest = h ∙ ap (λ (x : List ℕ). (map (λ r. x ∷ r) d.rows ++ full ds) ++ (l ∷ r) ∷ rest) same.0 in
-    elim (here s.letter s.rows d.rows ss ds l r rest e (told (has_letter s.letter ss) sa.0) (ap (λ (x : List ℕ). has_letter x ds) (sym same.0) ∙ told (has_letter d.letter ds) da.0)) [
+    elim (here s.letter s.rows d.rows ss ds l r rest e (not_so (has_letter s.letter ss) sa.0) (ap (λ (x : List ℕ). has_letter x ds) (sym same.0) ∙ not_so (has_letter d.letter ds) da.0)) [
       | inl i ↦ inl i
       | inr j ↦ inr (j.0, next_section ss ds l r rest j.1 same.1 sa.1 da.1)
     ]
@@ -175,7 +175,7 @@ same_rows (s ∷ ss) (d ∷ ds) h same a b =
     let sa = both (not (has_letter s.letter ss)) (are_apart ss) a in
     let da = both (not (has_letter d.letter ds)) (are_apart ds) b in
     let e : map (λ r. s.letter ∷ r) s.rows ++ full ss ≡ map (λ r. s.letter ∷ r) d.rows ++ full ds = h ∙ ap (λ (x : List ℕ). map (λ r. x ∷ r) d.rows ++ full ds) same.0 in
-    let here = alike s.letter s.rows d.rows ss ds e (told (has_letter s.letter ss) sa.0) (ap (λ (x : List ℕ). has_letter x ds) (sym same.0) ∙ told (has_letter d.letter ds) da.0) in
+    let here = alike s.letter s.rows d.rows ss ds e (not_so (has_letter s.letter ss) sa.0) (ap (λ (x : List ℕ). has_letter x ds) (sym same.0) ∙ not_so (has_letter d.letter ds) da.0) in
     (here.0, same_rows ss ds here.1 same.1 sa.1 da.1)
 
 -- a line of fields in which c does not stand
@@ -225,8 +225,8 @@ pub next_at : (ss ds : List Section) (l : List ℕ) (r : Row) (n : ℕ) → only
 next_at [] ds l r n o h = absurd h
 next_at (s ∷ ss) [] l r n o h = absurd h
 next_at (s ∷ ss) (d ∷ ds) l r zero o (inl i) = (i.1, i.2)
-next_at (s ∷ ss) (d ∷ ds) l r zero o (inr j) = (let yes = next_letter ss ds l r j.1 in let off = told (has_letter l ss) o in cc)
-next_at (s ∷ ss) (d ∷ ds) l r (suc n) o (inl i) = absurd (not_from_Decides (bytes_eq l s.letter) (bytes_eq-Decides l s.letter) (told (bytes_eq l s.letter) (both (not (bytes_eq l s.letter)) (only_at n l ss) o).0) (sym i.0))
+next_at (s ∷ ss) (d ∷ ds) l r zero o (inr j) = (let yes = next_letter ss ds l r j.1 in let off = not_so (has_letter l ss) o in cc)
+next_at (s ∷ ss) (d ∷ ds) l r (suc n) o (inl i) = absurd (not_from_Decides (bytes_eq l s.letter) (bytes_eq-Decides l s.letter) (not_so (bytes_eq l s.letter) (both (not (bytes_eq l s.letter)) (only_at n l ss) o).0) (sym i.0))
 next_at (s ∷ ss) (d ∷ ds) l r (suc n) o (inr j) = (j.0, next_at ss ds l r n (both (not (bytes_eq l s.letter)) (only_at n l ss) o).1 j.1)
 
 -- the letter of the section at a place

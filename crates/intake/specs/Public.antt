@@ -13,9 +13,9 @@ use Rattle.intake.specs.Lines.{public_text}
 use Rattle.intake.specs.Reading.{IsFaultOf, pieces}
 
 -- the project that a student is assigned, or none, in the place of the list
-abbrev pub told_list : Option ℕ → List ℕ
-told_list None = []
-told_list (Some p) = p ∷ []
+abbrev pub assigned_list : Option ℕ → List ℕ
+assigned_list None = []
+assigned_list (Some p) = p ∷ []
 
 -- what is posted, with an aim and the codes of supervisors, projects and students
 abbrev pub posted_parts : Aim → List (List ℕ) → List (List ℕ) → List (List ℕ) → Posted → Parts
@@ -25,7 +25,7 @@ posted_parts aim supervisors projects students posted = record {
     supervisor_codes = supervisors;
     project_codes = projects;
     student_codes = students;
-    shape = with_lists posted (map told_list posted.students.items);
+    shape = with_lists posted (map assigned_list posted.students.items);
   });
   places = [];
   student_prices = [];

@@ -6,7 +6,7 @@ ghost use Rattle.spa.specs.Codes.{code_at};
 ghost use Rattle.intake.specs.declared.section.Kind.TheVariants.{Public};
 ghost use Rattle.intake.specs.Parts.{IsListOf, IsRoll};
 ghost use Rattle.intake.specs.Lines.{lines_of};
-ghost use Rattle.intake.specs.Public.{IsPublicParts, public_read, told_list};
+ghost use Rattle.intake.specs.Public.{IsPublicParts, public_read, assigned_list};
 ghost use Rattle.intake.specs.Inside.PartialRound.{draft_of, IsDraft};
 ghost use Rattle.intake.specs.Inside.Posting.{ArePostedProjects, ArePostedStudents, ArePostedSupervisors};
 
@@ -44,10 +44,10 @@ fn owner_of(supervisors: &[(Code, u32)], code: &Code) -> usize
 }
 
 /// Returns the position of the project that stands in the place of a list, or none.
-fn told_of(projects: &[(Code, Code, u32)], list: &[Code]) -> Option<usize>
+fn assigned_of(projects: &[(Code, Code, u32)], list: &[Code]) -> Option<usize>
     requires roll { IsRoll (map (λ e. e.0) projects.now) }
     requires list { IsListOf Public (map (λ e. e.0) projects.now) list.now }
-    ensures list { map (code_at (map (λ e. e.0) projects.now)) (told_list result) ≡ list.now }
+    ensures list { map (code_at (map (λ e. e.0) projects.now)) (assigned_list result) ≡ list.now }
     ensures known { IfSome result (λ p. p < length projects.now) }
 {
     let Some(code) = list.first() else {
@@ -102,12 +102,12 @@ fn post_students(
     ensures { IfOk result (λ v. ArePostedStudents (map (λ e. e.0) projects.now) (map (λ e. (e.0, e.1.items)) roll.now) v.0.items v.1.items) }
 {
     let mut codes = Vec::with_capacity(alloc, roll.len())?;
-    let mut told = Vec::with_capacity(alloc, roll.len())?;
+    let mut assigned = Vec::with_capacity(alloc, roll.len())?;
     for s in 0..roll.len() {
         codes.push(roll[s].0.copy())?;
-        told.push(told_of(projects, &roll[s].1))?;
+        assigned.push(assigned_of(projects, &roll[s].1))?;
     }
-    Ok((codes, told))
+    Ok((codes, assigned))
 }
 
 impl PublicParts {
@@ -119,7 +119,7 @@ impl PublicParts {
     {
         let (supervisors, quotas) = post_supervisors(alloc, &draft.supervisors)?;
         let (projects, offers) = post_projects(alloc, &draft.supervisors, &draft.projects)?;
-        let (students, told) = post_students(alloc, &draft.projects, &draft.students)?;
+        let (students, assigned) = post_students(alloc, &draft.projects, &draft.students)?;
         let prices = draft.prices;
         let mut project_prices = prices.projects;
         fill(&mut project_prices, projects.len(), [0; COMPONENTS])?;
@@ -133,7 +133,7 @@ impl PublicParts {
             posted: Posted {
                 supervisors: quotas,
                 projects: offers,
-                students: told,
+                students: assigned,
                 project_prices,
                 supervisor_prices,
             },

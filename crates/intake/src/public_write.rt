@@ -6,7 +6,7 @@ ghost use Rattle.spa.specs.Named.{students_named};
 ghost use Rattle.spa.specs.Codes.{code_at};
 ghost use Rattle.public_result.specs.Posted.{IsKnown};
 ghost use Rattle.intake.specs.Lines.{line, ended, section_lines, public_text, student_row};
-ghost use Rattle.intake.specs.Public.{posted_parts, told_list};
+ghost use Rattle.intake.specs.Public.{posted_parts, assigned_list};
 
 use crate::lines::push_student;
 use crate::section::Kind;
@@ -16,16 +16,16 @@ use spa::{Aim, Code};
 use std::alloc::{AllocError, Global};
 
 /// Appends the line of what a student is assigned.
-fn push_told(
+fn push_assigned(
     out: &mut String,
     projects: &[Code],
     student: &str,
-    told: Option<usize>,
+    assigned: Option<usize>,
 ) -> Result<(), AllocError>
-    requires { IfSome told (λ p. p < length projects.now) }
-    ensures { OnOk result (string_bytes out.new ≡ string_bytes out.old ++ ended (line (codes "R") (student.now ∷ map (code_at projects.now) (told_list told)) ∷ [])) }
+    requires { IfSome assigned (λ p. p < length projects.now) }
+    ensures { OnOk result (string_bytes out.new ≡ string_bytes out.old ++ ended (line (codes "R") (student.now ∷ map (code_at projects.now) (assigned_list assigned)) ∷ [])) }
 {
-    match told {
+    match assigned {
         None => push_student(out, "R", student, projects, &[]),
         Some(project) => push_student(out, "R", student, projects, &[project]),
     }
@@ -36,15 +36,15 @@ fn write_told(
     out: &mut String,
     projects: &[Code],
     roll: &[Code],
-    told: &[Option<usize>],
+    assigned: &[Option<usize>],
 ) -> Result<(), AllocError>
-    requires one_each { length roll.now ≡ length told.now }
-    requires known { All (λ t. IfSome t (λ p. p < length projects.now)) told.now }
+    requires one_each { length roll.now ≡ length assigned.now }
+    requires known { All (λ t. IfSome t (λ p. p < length projects.now)) assigned.now }
     ensures { OnOk result (string_bytes out.new ≡ string_bytes out.old
-        ++ ended (section_lines (record { letter = codes "R"; rows = map student_row (students_named projects.now roll.now (map told_list told.now)) }))) }
+        ++ ended (section_lines (record { letter = codes "R"; rows = map student_row (students_named projects.now roll.now (map assigned_list assigned.now)) }))) }
 {
     for s in 0..roll.len() {
-        push_told(out, projects, roll[s].as_str(), told[s])?;
+        push_assigned(out, projects, roll[s].as_str(), assigned[s])?;
     }
     Ok(())
 }

@@ -1,7 +1,7 @@
 //! The rows of entries, and which rows of the tables go together.
 
 ghost use Rattle.std.specs.Prelude.{◌≡◌, IfOk};
-ghost use Rattle.office_model.specs.Making as says;
+ghost use Rattle.office_model.specs.Making as spec;
 ghost use Rattle.office_model.specs.Rows.{aim_cells, choice_cells, flag, import_cells, placement_cells, project_cells, student_cells, supervisor_cells};
 
 use crate::entries::{Project, Student, Supervisor};
@@ -101,7 +101,7 @@ impl Import {
 
 /// Returns the row of a round of this number. An `Err` is out of memory.
 pub fn round_row(alloc: Global, round: u32, is_open: bool) -> Result<Row, AllocError>
-    ensures { IfOk result (λ row. row ≡ says.round_row round is_open) }
+    ensures { IfOk result (λ row. row ≡ spec.round_row round is_open) }
 {
     let cells = vec![in alloc; Cell::Number(round), flag(is_open)]?;
     Ok(Row::of(Table::Round, cells))
@@ -125,7 +125,7 @@ pub fn choice_row(
 
 /// Returns the rows of a student's list in a round. An `Err` is out of memory.
 pub fn list_part(alloc: Global, round: u32, student: &str) -> Result<Part, AllocError>
-    ensures { IfOk result (λ part. part ≡ says.list_part round student.now) }
+    ensures { IfOk result (λ part. part ≡ spec.list_part round student.now) }
 {
     let student = Cell::text(alloc, student)?;
     let cells = vec![in alloc; Cell::Number(round), student]?;
@@ -134,7 +134,7 @@ pub fn list_part(alloc: Global, round: u32, student: &str) -> Result<Part, Alloc
 
 /// Returns the rows of a round's placements. An `Err` is out of memory.
 pub fn placed_part(alloc: Global, round: u32) -> Result<Part, AllocError>
-    ensures { IfOk result (λ part. part ≡ says.placed_part round) }
+    ensures { IfOk result (λ part. part ≡ spec.placed_part round) }
 {
     let cells = vec![in alloc; Cell::Number(round)]?;
     Ok(Part::of(Group::Placed, cells))

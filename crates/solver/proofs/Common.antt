@@ -4,7 +4,7 @@ pub use Rattle.network.specs.declared.TheConstants.{LARGEST_PRICE}
 pub use Rattle.solver.specs.Inside.Kept.{IsNetworkKept}
 pub use Rattle.solver.specs.Inside.Solved.{AreNumbersOf, ArePricesOf, IsOf}
 pub use Rattle.solver.specs.Inside.Weights.{weighed, weighed_from, worth_of}
-pub use Rattle.solver.specs.Kept.{sitting_of}
+pub use Rattle.solver.specs.Kept.{session_of}
 pub use Rattle.solver.specs.SessionState.{IsAdmitted, SessionState, session_arcs, session_nodes, with_list}
 pub use Rattle.spa.proofs.Aims.{aim_sums, best_from_unbeaten, read_sum}
 pub use Rattle.spa.proofs.Places.{count_none, left_none, left_some, rank_of_place, rest_some}

@@ -6,5 +6,5 @@ use Rattle.network.specs.Seen.{Seen, shape_of}
 use Rattle.solver.specs.SessionState.{SessionState}
 
 -- the value of a session with this aim and network
-abbrev pub sitting_of : Aim → Seen (Places COMPONENTS) → SessionState
-sitting_of aim v = record { aim = aim; shape = shape_of v; steps = v.steps }
+abbrev pub session_of : Aim → Seen (Places COMPONENTS) → SessionState
+session_of aim v = record { aim = aim; shape = shape_of v; steps = v.steps }

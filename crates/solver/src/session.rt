@@ -74,12 +74,12 @@ pub struct Session {
 
 impl Model for Session {
     ghost use Rattle.solver.specs.SessionState.{SessionState};
-    ghost use Rattle.solver.specs.Kept.{sitting_of};
+    ghost use Rattle.solver.specs.Kept.{session_of};
     ghost use Rattle.solver.specs.Inside.Kept.{IsNetworkKept};
 
     ghost Value = { SessionState };
 
-    ghost view = { λ s. sitting_of s.aim s.network };
+    ghost view = { λ s. session_of s.aim s.network };
 
     ghost invariant = { λ s. IsNetworkKept s.aim s.network s.students };
 }

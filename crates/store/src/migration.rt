@@ -3,7 +3,7 @@
 
 ghost use Rattle.std.specs.Prelude.{◌≡◌, ◌++◌, IfOk, map, filter};
 ghost use Rattle.store.specs.Inside.Reading as reading;
-ghost use Rattle.store.specs.Migration as says;
+ghost use Rattle.store.specs.Migration as spec;
 
 use crate::edition::Edition;
 use office_model::{Cell, Change, Row, Table};
@@ -11,7 +11,7 @@ use std::alloc::{AllocError, Global};
 
 /// Returns the aims of the rounds among rows of the first edition.
 fn aims_of(alloc: Global, rows: &[Row]) -> Result<Vec<Row>, AllocError>
-    ensures { IfOk result (λ aims. aims.items ≡ says.aims_of rows.now) }
+    ensures { IfOk result (λ aims. aims.items ≡ spec.aims_of rows.now) }
 {
     let mut aims = Vec::new(alloc);
     for row in rows {
@@ -26,7 +26,7 @@ fn aims_of(alloc: Global, rows: &[Row]) -> Result<Vec<Row>, AllocError>
 
 /// Returns the table that took a table's place, and the other way round.
 fn renamed_table(table: Table) -> Table
-    ensures { result ≡ says.renamed table }
+    ensures { result ≡ spec.renamed table }
 {
     match table {
         Table::Choice => Table::OldChoice,
@@ -39,7 +39,7 @@ fn renamed_table(table: Table) -> Table
 
 /// Returns a row of a table of earlier editions as one of the table that took its place, and the other way round.
 fn renamed(row: Row) -> Row
-    ensures { result ≡ says.renamed_row row }
+    ensures { result ≡ spec.renamed_row row }
 {
     let _ = row.cells();
     let table = renamed_table(row.table());
@@ -48,7 +48,7 @@ fn renamed(row: Row) -> Row
 
 /// Does the same with each of these rows.
 fn all_renamed(alloc: Global, rows: Vec<Row>) -> Result<Vec<Row>, AllocError>
-    ensures { IfOk result (λ all. all.items ≡ map says.renamed_row rows.items) }
+    ensures { IfOk result (λ all. all.items ≡ map spec.renamed_row rows.items) }
 {
     let mut all = Vec::with_capacity(alloc, rows.len())?;
     for row in rows {
@@ -78,14 +78,14 @@ pub fn migrated_rows(
 
 /// Whether a row is of a table of earlier editions.
 fn is_old(row: &Row) -> bool
-    ensures { result ≡ says.is_old row.now }
+    ensures { result ≡ spec.is_old row.now }
 {
     matches!(row.table(), Table::OldChoice | Table::OldPlacement)
 }
 
 /// Returns the removals of the rows of tables of earlier editions.
 fn old_removals(alloc: Global, rows: &[Row]) -> Result<Vec<Change>, AllocError>
-    ensures { IfOk result (λ changes. changes.items ≡ map says.removal_of (filter says.is_old rows.now)) }
+    ensures { IfOk result (λ changes. changes.items ≡ map spec.removal_of (filter spec.is_old rows.now)) }
 {
     let mut changes = Vec::new(alloc);
     for row in rows {
@@ -98,7 +98,7 @@ fn old_removals(alloc: Global, rows: &[Row]) -> Result<Vec<Change>, AllocError>
 
 /// Returns those rows as they stand in the tables that took their place.
 fn all_old_renamed(alloc: Global, rows: &[Row]) -> Result<Vec<Row>, AllocError>
-    ensures { IfOk result (λ all. all.items ≡ map says.renamed_row (filter says.is_old rows.now)) }
+    ensures { IfOk result (λ all. all.items ≡ map spec.renamed_row (filter spec.is_old rows.now)) }
 {
     let mut all = Vec::new(alloc);
     for row in rows {
@@ -115,7 +115,7 @@ fn renaming_changes(
     rows: &[Row],
     mut more: Vec<Row>,
 ) -> Result<Vec<Change>, AllocError>
-    ensures { IfOk result (λ changes. changes.items ≡ says.renaming_changes rows.now more.items) }
+    ensures { IfOk result (λ changes. changes.items ≡ spec.renaming_changes rows.now more.items) }
 {
     let mut changes = old_removals(alloc, rows)?;
     let mut news = all_old_renamed(alloc, rows)?;
@@ -132,7 +132,7 @@ pub fn migrating_changes(
     edition: Edition,
     rows: &[Row],
 ) -> Result<Vec<Change>, AllocError>
-    ensures { IfOk result (λ changes. changes.items ≡ says.migrating_changes edition rows.now) }
+    ensures { IfOk result (λ changes. changes.items ≡ spec.migrating_changes edition rows.now) }
 {
     match edition {
         Edition::First => {

@@ -2,7 +2,7 @@
 use Rattle.std.specs.Prelude.{◌≡◌, ℕ, ◌<◌, List, length, map, Option, IfSome, All}
 use Rattle.spa.specs.Instance.{supervisors_of, projects_of, students_of}
 use Rattle.spa.specs.Named.{supervisors_named, projects_named, students_named}
-use Rattle.intake.specs.Public.{told_list}
+use Rattle.intake.specs.Public.{assigned_list}
 
 -- codes and quotas of these supervisors
 pub record ArePostedSupervisors (roll : List (List ℕ × ℕ)) (codes : List (List ℕ)) (quotas : List ℕ) : Type 0 where
@@ -16,7 +16,7 @@ pub record ArePostedProjects (known : List (List ℕ)) (roll : List (List ℕ ×
   pub within : All (λ p. p.0 < length known) offers
 
 -- codes of these students, and by position what each is assigned
-pub record ArePostedStudents (known : List (List ℕ)) (roll : List (List ℕ × List (List ℕ))) (codes : List (List ℕ)) (told : List (Option ℕ)) : Type 0 where
-  pub one_each : length codes ≡ length told
-  pub same : students_named known codes (map told_list told) ≡ students_of roll
-  pub within : All (λ t. IfSome t (λ p. p < length known)) told
+pub record ArePostedStudents (known : List (List ℕ)) (roll : List (List ℕ × List (List ℕ))) (codes : List (List ℕ)) (assigned : List (Option ℕ)) : Type 0 where
+  pub one_each : length codes ≡ length assigned
+  pub same : students_named known codes (map assigned_list assigned) ≡ students_of roll
+  pub within : All (λ t. IfSome t (λ p. p < length known)) assigned

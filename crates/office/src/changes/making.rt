@@ -2,7 +2,7 @@
 
 ghost use Rattle.std.specs.Prelude.{◌≡◌, ◌≤◌, IfOk, length};
 ghost use Rattle.spa.specs.declared.TheConstants.{RANKS};
-ghost use Rattle.office_model.specs.Making as says;
+ghost use Rattle.office_model.specs.Making as spec;
 ghost use Rattle.office.specs.changes.Changes.{kept_placements};
 
 use office_model::{Change, Placement, RoundAim, choice_row, list_part, placed_part, round_row};
@@ -16,7 +16,7 @@ fn list_taken(
     student: &str,
     has_list: bool,
 ) -> Result<Vec<Change>, AllocError>
-    ensures { IfOk result (λ changes. changes.items ≡ says.list_taken round student.now has_list) }
+    ensures { IfOk result (λ changes. changes.items ≡ spec.list_taken round student.now has_list) }
 {
     let mut changes = Vec::new(alloc);
     if has_list {
@@ -35,7 +35,7 @@ pub fn list_changes(
     new: &[Code],
 ) -> Result<Vec<Change>, AllocError>
     requires { length new.now ≤ RANKS }
-    ensures { IfOk result (λ changes. changes.items ≡ says.list_changes round student.now has_list new.now) }
+    ensures { IfOk result (λ changes. changes.items ≡ spec.list_changes round student.now has_list new.now) }
 {
     let mut changes = list_taken(alloc, round, student, has_list)?;
     for (place, code) in new.iter().enumerate() {
@@ -48,7 +48,7 @@ pub fn list_changes(
 
 /// Returns the changes by which a round of this number and with this aim opens. An `Err` is out of memory.
 pub fn opening_changes(alloc: Global, round: u32, aim: Aim) -> Result<Vec<Change>, AllocError>
-    ensures { IfOk result (λ changes. changes.items ≡ says.opening_changes round aim) }
+    ensures { IfOk result (λ changes. changes.items ≡ spec.opening_changes round aim) }
 {
     let mut changes = Vec::new(alloc);
     changes.push(Change::Add(round_row(alloc, round, true)?))?;
@@ -58,7 +58,7 @@ pub fn opening_changes(alloc: Global, round: u32, aim: Aim) -> Result<Vec<Change
 
 /// Returns the changes by which a round opens again, and its placements go. An `Err` is out of memory.
 pub fn reopening_changes(alloc: Global, round: u32) -> Result<Vec<Change>, AllocError>
-    ensures { IfOk result (λ changes. changes.items ≡ says.reopening_changes round) }
+    ensures { IfOk result (λ changes. changes.items ≡ spec.reopening_changes round) }
 {
     let mut changes = Vec::new(alloc);
     changes.push(Change::Put(round_row(alloc, round, true)?))?;

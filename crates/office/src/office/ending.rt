@@ -7,7 +7,7 @@ ghost use Rattle.spa.specs.Coded.{taken};
 ghost use Rattle.office_model.specs.Instances.{instance_left, instance_of_round, round_instance};
 ghost use Rattle.office_model.specs.Counted.{count_in, count_with};
 ghost use Rattle.office.specs.closing.Places.{ArePlacesOf};
-ghost use Rattle.office.specs.closing.Changes as says;
+ghost use Rattle.office.specs.closing.Changes as spec;
 
 use super::Office;
 use super::placed::ranked;
@@ -55,7 +55,7 @@ impl Office {
         requires open { IsTrue (round_is_open self.old) }
         requires matching { ArePlacesOf (round_instance self.old) matching.now.places.items }
         ensures ok { IfOk result (IsClosed (taken (round_instance self.old).students matching.now.places.items) self.old self.new) }
-        ensures changes { IfOk result (λ done. let changes = done.changes in changes.items ≡ says.close_changes (taken (round_instance self.old).students matching.now.places.items) self.old) }
+        ensures changes { IfOk result (λ done. let changes = done.changes in changes.items ≡ spec.close_changes (taken (round_instance self.old).students matching.now.places.items) self.old) }
         ensures err { OnErr result (self.new ≡ self.old) }
     {
         let round = self.last_round();

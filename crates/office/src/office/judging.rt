@@ -3,7 +3,7 @@
 ghost use Rattle.std.specs.Prelude.{◌≡◌, [], Some, None};
 ghost use Rattle.office.specs.Common.{list_any, first, plain_refusal, is_moved, choice_tests, open_tests, opening_tests};
 ghost use Rattle.std.specs.Str.{bytes_eq};
-ghost use Rattle.office_model.specs.declared.request.Plain.TheVariants as ask;
+ghost use Rattle.office_model.specs.declared.request.Plain.TheVariants as plain;
 
 use super::Office;
 use office_model::{MAX_ROUNDS, Refusal, Text};
@@ -14,7 +14,7 @@ use spa::{
 impl Office {
     /// Returns why a supervisor can't be put.
     pub(crate) fn supervisor_refusal(&self, code: &str, label: &str, quota: u32) -> Option<Refusal>
-        ensures { result ≡ plain_refusal self.now (ask.PutSupervisor code.now label.now quota) }
+        ensures { result ≡ plain_refusal self.now (plain.PutSupervisor code.now label.now quota) }
     {
         if !is_code_text(code) {
             return Some(Refusal::Code);
@@ -44,7 +44,7 @@ impl Office {
         supervisor: &str,
         quota: u32,
     ) -> Option<Refusal>
-        ensures { result ≡ plain_refusal self.now (ask.PutProject code.now label.now supervisor.now quota) }
+        ensures { result ≡ plain_refusal self.now (plain.PutProject code.now label.now supervisor.now quota) }
     {
         if !is_code_text(code) {
             return Some(Refusal::Code);
@@ -75,7 +75,7 @@ impl Office {
 
     /// Returns why a student can't be put.
     pub(crate) fn student_refusal(&self, code: &str, label: &str) -> Option<Refusal>
-        ensures { result ≡ plain_refusal self.now (ask.PutStudent code.now label.now) }
+        ensures { result ≡ plain_refusal self.now (plain.PutStudent code.now label.now) }
     {
         if !is_code_text(code) {
             return Some(Refusal::Code);
@@ -114,7 +114,7 @@ impl Office {
 
     /// Returns why the last round can't be reopened.
     pub(crate) fn reopening_refusal(&self) -> Option<Refusal>
-        ensures { result ≡ plain_refusal self.now ask.ReopenRound }
+        ensures { result ≡ plain_refusal self.now plain.ReopenRound }
     {
         if self.round_is_open() {
             return Some(Refusal::RoundIsOpen);
@@ -137,7 +137,7 @@ impl Office {
 
     /// Returns why a list can't be put.
     pub(crate) fn list_refusal(&self, student: &str, choices: &[Text]) -> Option<Refusal>
-        ensures { result ≡ plain_refusal self.now (ask.PutList student.now choices.now) }
+        ensures { result ≡ plain_refusal self.now (plain.PutList student.now choices.now) }
     {
         if !self.round_is_open() {
             return Some(Refusal::NoRoundOpen);
@@ -172,7 +172,7 @@ impl Office {
 
     /// Returns why a list can't be dropped.
     pub(crate) fn drop_refusal(&self, student: &str) -> Option<Refusal>
-        ensures { result ≡ plain_refusal self.now (ask.DropList student.now) }
+        ensures { result ≡ plain_refusal self.now (plain.DropList student.now) }
     {
         if !self.round_is_open() {
             return Some(Refusal::NoRoundOpen);

@@ -2,7 +2,7 @@
 
 ghost use Rattle.std.specs.Prelude.{◌≡◌, None, IfOk, OnErr, IsTrue};
 ghost use Rattle.office.specs.Common.{AllByRecursion, has_project, plain_refusal, IsDone, changes_of};
-ghost use Rattle.office_model.specs.declared.request.Plain.TheVariants as ask;
+ghost use Rattle.office_model.specs.declared.request.Plain.TheVariants as plain;
 
 use super::Office;
 use crate::changes::list_changes;
@@ -27,9 +27,9 @@ impl Office {
 
     /// Makes a student's list in the open round this one.
     pub(crate) fn put_list(&mut self, student: Text, choices: Texts) -> Result<Done, AllocError>
-        requires allowed { plain_refusal self.old (ask.PutList student choices) ≡ None }
-        ensures ok { IfOk result (IsDone (ask.PutList student choices) self.old self.new) }
-        ensures changes { IfOk result (λ done. let changes = done.changes in changes.items ≡ changes_of (ask.PutList student choices) self.old) }
+        requires allowed { plain_refusal self.old (plain.PutList student choices) ≡ None }
+        ensures ok { IfOk result (IsDone (plain.PutList student choices) self.old self.new) }
+        ensures changes { IfOk result (λ done. let changes = done.changes in changes.items ≡ changes_of (plain.PutList student choices) self.old) }
         ensures err { OnErr result (self.new ≡ self.old) }
     {
         let round = self.last_round();
@@ -51,9 +51,9 @@ impl Office {
 
     /// Takes a student's list out of the open round.
     pub(crate) fn drop_list(&mut self, student: Text) -> Result<Done, AllocError>
-        requires allowed { plain_refusal self.old (ask.DropList student) ≡ None }
-        ensures ok { IfOk result (IsDone (ask.DropList student) self.old self.new) }
-        ensures changes { IfOk result (λ done. let changes = done.changes in changes.items ≡ changes_of (ask.DropList student) self.old) }
+        requires allowed { plain_refusal self.old (plain.DropList student) ≡ None }
+        ensures ok { IfOk result (IsDone (plain.DropList student) self.old self.new) }
+        ensures changes { IfOk result (λ done. let changes = done.changes in changes.items ≡ changes_of (plain.DropList student) self.old) }
         ensures err { OnErr result (self.new ≡ self.old) }
     {
         let round = self.last_round();

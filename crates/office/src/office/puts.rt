@@ -2,7 +2,7 @@
 
 ghost use Rattle.std.specs.Prelude.{◌≡◌, None, IfOk, OnErr};
 ghost use Rattle.office.specs.Common.{plain_refusal, IsDone, changes_of};
-ghost use Rattle.office_model.specs.declared.request.Plain.TheVariants as ask;
+ghost use Rattle.office_model.specs.declared.request.Plain.TheVariants as plain;
 
 use super::Office;
 use crate::making::{new_project, new_student, new_supervisor};
@@ -17,9 +17,9 @@ impl Office {
         label: Text,
         quota: u32,
     ) -> Result<Done, AllocError>
-        requires allowed { plain_refusal self.old (ask.PutSupervisor code label quota) ≡ None }
-        ensures ok { IfOk result (IsDone (ask.PutSupervisor code label quota) self.old self.new) }
-        ensures changes { IfOk result (λ done. let changes = done.changes in changes.items ≡ changes_of (ask.PutSupervisor code label quota) self.old) }
+        requires allowed { plain_refusal self.old (plain.PutSupervisor code label quota) ≡ None }
+        ensures ok { IfOk result (IsDone (plain.PutSupervisor code label quota) self.old self.new) }
+        ensures changes { IfOk result (λ done. let changes = done.changes in changes.items ≡ changes_of (plain.PutSupervisor code label quota) self.old) }
         ensures err { OnErr result (self.new ≡ self.old) }
     {
         let known = self.supervisors.by_code(code.as_str()).is_some();
@@ -39,9 +39,9 @@ impl Office {
         supervisor: Text,
         quota: u32,
     ) -> Result<Done, AllocError>
-        requires allowed { plain_refusal self.old (ask.PutProject code label supervisor quota) ≡ None }
-        ensures ok { IfOk result (IsDone (ask.PutProject code label supervisor quota) self.old self.new) }
-        ensures changes { IfOk result (λ done. let changes = done.changes in changes.items ≡ changes_of (ask.PutProject code label supervisor quota) self.old) }
+        requires allowed { plain_refusal self.old (plain.PutProject code label supervisor quota) ≡ None }
+        ensures ok { IfOk result (IsDone (plain.PutProject code label supervisor quota) self.old self.new) }
+        ensures changes { IfOk result (λ done. let changes = done.changes in changes.items ≡ changes_of (plain.PutProject code label supervisor quota) self.old) }
         ensures err { OnErr result (self.new ≡ self.old) }
     {
         let known = self.projects.by_code(code.as_str()).is_some();
@@ -55,9 +55,9 @@ impl Office {
 
     /// Puts a student on the roll.
     pub(crate) fn put_student(&mut self, code: Text, label: Text) -> Result<Done, AllocError>
-        requires allowed { plain_refusal self.old (ask.PutStudent code label) ≡ None }
-        ensures ok { IfOk result (IsDone (ask.PutStudent code label) self.old self.new) }
-        ensures changes { IfOk result (λ done. let changes = done.changes in changes.items ≡ changes_of (ask.PutStudent code label) self.old) }
+        requires allowed { plain_refusal self.old (plain.PutStudent code label) ≡ None }
+        ensures ok { IfOk result (IsDone (plain.PutStudent code label) self.old self.new) }
+        ensures changes { IfOk result (λ done. let changes = done.changes in changes.items ≡ changes_of (plain.PutStudent code label) self.old) }
         ensures err { OnErr result (self.new ≡ self.old) }
     {
         let known = self.students.by_code(code.as_str()).is_some();

@@ -2,7 +2,7 @@
 
 ghost use Rattle.std.specs.Prelude.{◌≡◌, IfOk, Some, None};
 ghost use Rattle.office.specs.Common.{open_choices, placement_of, plain_refusal, plain_reply};
-ghost use Rattle.office_model.specs.declared.request.Plain.TheVariants as ask;
+ghost use Rattle.office_model.specs.declared.request.Plain.TheVariants as plain;
 
 use super::Office;
 use super::placed::{placed_by, ranked};
@@ -12,8 +12,8 @@ use std::alloc::AllocError;
 impl Office {
     /// Returns a supervisor, as answered.
     pub(crate) fn get_supervisor(&self, code: &str) -> Result<Reply, AllocError>
-        requires allowed { plain_refusal self.now (ask.GetSupervisor code.now) ≡ None }
-        ensures reply { IfOk result (λ reply. Some reply ≡ plain_reply (ask.GetSupervisor code.now) self.now) }
+        requires allowed { plain_refusal self.now (plain.GetSupervisor code.now) ≡ None }
+        ensures reply { IfOk result (λ reply. Some reply ≡ plain_reply (plain.GetSupervisor code.now) self.now) }
     {
         let supervisor = self.supervisors.by_code(code).unwrap();
         Ok(Reply::Supervisor {
@@ -25,8 +25,8 @@ impl Office {
 
     /// Returns a project, as answered.
     pub(crate) fn get_project(&self, code: &str) -> Result<Reply, AllocError>
-        requires allowed { plain_refusal self.now (ask.GetProject code.now) ≡ None }
-        ensures reply { IfOk result (λ reply. Some reply ≡ plain_reply (ask.GetProject code.now) self.now) }
+        requires allowed { plain_refusal self.now (plain.GetProject code.now) ≡ None }
+        ensures reply { IfOk result (λ reply. Some reply ≡ plain_reply (plain.GetProject code.now) self.now) }
     {
         let project = self.projects.by_code(code).unwrap();
         Ok(Reply::Project {
@@ -62,8 +62,8 @@ impl Office {
 
     /// Returns a student, as answered.
     pub(crate) fn get_student(&self, code: &str) -> Result<Reply, AllocError>
-        requires allowed { plain_refusal self.now (ask.GetStudent code.now) ≡ None }
-        ensures reply { IfOk result (λ reply. Some reply ≡ plain_reply (ask.GetStudent code.now) self.now) }
+        requires allowed { plain_refusal self.now (plain.GetStudent code.now) ≡ None }
+        ensures reply { IfOk result (λ reply. Some reply ≡ plain_reply (plain.GetStudent code.now) self.now) }
     {
         let student = self.students.by_code(code).unwrap();
         Ok(Reply::Student {
@@ -75,8 +75,8 @@ impl Office {
 
     /// Returns a round, as answered.
     pub(crate) fn get_round(&self, round: u32) -> Reply
-        requires allowed { plain_refusal self.now (ask.GetRound round) ≡ None }
-        ensures reply { Some result ≡ plain_reply (ask.GetRound round) self.now }
+        requires allowed { plain_refusal self.now (plain.GetRound round) ≡ None }
+        ensures reply { Some result ≡ plain_reply (plain.GetRound round) self.now }
     {
         let placements = self.placements.entries();
         let found = self.rounds.by_number(round).unwrap();

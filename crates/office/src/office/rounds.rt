@@ -3,7 +3,7 @@
 ghost use Rattle.std.specs.Prelude.{◌≡◌, true, is_some, option_copied, Some, None, IfOk, OnErr};
 ghost use Rattle.office.specs.Common.{IsFit, aim_key, aim_of, last_round, list_of, lists_of, round_is_open, round_of, plain_refusal, IsDone, changes_of};
 ghost use Rattle.office_model.specs.Roll.{put};
-ghost use Rattle.office_model.specs.declared.request.Plain.TheVariants as ask;
+ghost use Rattle.office_model.specs.declared.request.Plain.TheVariants as plain;
 
 use super::Office;
 use crate::changes::{kept_placements, opening_changes, reopening_changes};
@@ -99,9 +99,9 @@ impl Office {
 
     /// Opens the next round, with this aim.
     pub(crate) fn open_round(&mut self, aim: Aim) -> Result<Done, AllocError>
-        requires allowed { plain_refusal self.old (ask.OpenRound aim) ≡ None }
-        ensures ok { IfOk result (IsDone (ask.OpenRound aim) self.old self.new) }
-        ensures changes { IfOk result (λ done. let changes = done.changes in changes.items ≡ changes_of (ask.OpenRound aim) self.old) }
+        requires allowed { plain_refusal self.old (plain.OpenRound aim) ≡ None }
+        ensures ok { IfOk result (IsDone (plain.OpenRound aim) self.old self.new) }
+        ensures changes { IfOk result (λ done. let changes = done.changes in changes.items ≡ changes_of (plain.OpenRound aim) self.old) }
         ensures err { OnErr result (self.new ≡ self.old) }
     {
         let number = self.last_round() + 1;
@@ -121,9 +121,9 @@ impl Office {
 
     /// Opens the last round again.
     pub(crate) fn reopen_round(&mut self) -> Result<Done, AllocError>
-        requires allowed { plain_refusal self.old ask.ReopenRound ≡ None }
-        ensures ok { IfOk result (IsDone ask.ReopenRound self.old self.new) }
-        ensures changes { IfOk result (λ done. let changes = done.changes in changes.items ≡ changes_of ask.ReopenRound self.old) }
+        requires allowed { plain_refusal self.old plain.ReopenRound ≡ None }
+        ensures ok { IfOk result (IsDone plain.ReopenRound self.old self.new) }
+        ensures changes { IfOk result (λ done. let changes = done.changes in changes.items ≡ changes_of plain.ReopenRound self.old) }
         ensures err { OnErr result (self.new ≡ self.old) }
     {
         let round = self.last_round();

@@ -42,7 +42,7 @@ returns-clause-lines c =
     let d = c.args.draft in
     let first : c.len.result ≡ length c.in_ok-projects.projects.items = search rules in
     let second : c.len-2.result ≡ length c.in_ok-supervisors.supervisors.items = search rules in
-    let posted : Posted = record { supervisors = c.in_ok-supervisors.quotas; projects = c.in_ok-projects.offers; students = c.in_ok-students.told; project_prices = c.fill.new.list; supervisor_prices = c.fill-2.new.list } in
+    let posted : Posted = record { supervisors = c.in_ok-supervisors.quotas; projects = c.in_ok-projects.offers; students = c.in_ok-students.assigned; project_prices = c.fill.new.list; supervisor_prices = c.fill-2.new.list } in
     let r : PublicParts = record { aim = d.aim; supervisors = c.in_ok-supervisors.supervisors; projects = c.in_ok-projects.projects; students = c.in_ok-students.students; posted = posted } in
     made_lines d r c.requires (made d r _ _ _ _ _ c.deref.ensures.value c.deref-2.ensures.value c.deref-3.ensures.value c.deref-4.ensures.value c.deref-5.ensures.value refl c.in_ok-supervisors.ensures c.in_ok-projects.ensures c.in_ok-students.ensures
     (c.in_ok-fill.ensures ∙ ap (λ (n : ℕ). d.prices.projects.items ++ replicate (n - length d.prices.projects.items) zeros) first)
