@@ -29,13 +29,9 @@ fn positions(
     ensures found { IfSome result (λ at. ArePositions supervisors.now projects.now project.now at.0 at.1) }
     ensures absent { result ≡ None → IsOffRoll supervisors.now projects.now project.now }
 {
-    match search(projects, 0, project) {
-        Ok(at) => match search(supervisors, 0, projects[at].supervisor.as_str()) {
-            Ok(offerer) => Some((at, offerer)),
-            Err(_) => None,
-        },
-        Err(_) => None,
-    }
+    let at = search(projects, 0, project).ok()?;
+    let offerer = search(supervisors, 0, projects[at].supervisor.as_str()).ok()?;
+    Some((at, offerer))
 }
 
 /// Counts a placement for its project and for the project's supervisor.
