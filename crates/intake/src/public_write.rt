@@ -32,7 +32,7 @@ fn push_assigned(
 }
 
 /// Appends the lines of what students are assigned.
-fn write_told(
+fn write_assigned(
     out: &mut String,
     projects: &[Code],
     roll: &[Code],
@@ -71,7 +71,7 @@ pub fn write_public(
     write_aim(&mut out, aim)?;
     write_supervisors(&mut out, supervisors, &posted.supervisors)?;
     write_projects(&mut out, supervisors, projects, &posted.projects)?;
-    write_told(&mut out, projects, students, &posted.students)?;
+    write_assigned(&mut out, projects, students, &posted.students)?;
     write_prices(&mut out, kind, "Y", projects, &posted.project_prices)?;
     write_prices(&mut out, kind, "Z", supervisors, &posted.supervisor_prices)?;
     Ok(out)

@@ -28,7 +28,7 @@ loop-n-preserved c =
             ]) in
             ap (λ out. string_bytes out ++ rest) w.out-is ∙ ap (λ r. string_bytes c.loop-n.out ++ r) (sym (no_price c.args.kind c.args.letter.now c.args.roll.now c.args.prices.now n coded priced none)) ∙ c.loop-n.invariant.text
       ];
-      numbers = one_more (λ v. length v ≡ COMPONENTS) c.args.prices.now n c.loop-n.invariant.numbers (λ d. ap length (get_or_default c.args.prices.now n d [] priced) ∙ c.assigned-prices n priced);
+      numbers = one_more (λ v. length v ≡ COMPONENTS) c.args.prices.now n c.loop-n.invariant.numbers (λ d. ap length (get_or_default c.args.prices.now n d [] priced) ∙ c.told-prices n priced);
     }
 
 pub push_price-requires : goal.push_price-requires
