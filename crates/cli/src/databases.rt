@@ -42,7 +42,6 @@ fn open_and_perform<S: Alter + Drop, P: Ports, O: Sink, E: Sink>(
         Ok(mut desk) => {
             desk.office();
             let status = perform(alloc, ports, &mut desk, task, outputs);
-            desk.office();
             (status, desk.into_connection())
         }
         Err((refusal, connection)) => {

@@ -28,6 +28,4 @@ pub fn solve_law<W: World, O: Sink, E: Sink>(world: &W, outputs: &Outputs<O, E>)
 /// opened as the office after all answers, or as one that one request makes of it.
 pub fn task_law<W: World, S: Alter>(world: &W)
     ensures stays { TaskStays S.Store (let at = W.state world.now in at.ports) }
-{
-    desk::crash_law::<S>();
-}
+{}

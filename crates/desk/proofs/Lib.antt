@@ -5,7 +5,7 @@ mod NoStorage
 pub mod SavedRows
 mod Runs
 mod AfterCrash
-mod Reached
-mod Lasting
+pub mod Reached
+pub mod Lasting
 mod SessionAfter
 mod Asked

@@ -109,6 +109,8 @@ impl<S: Alter> Desk<S> {
     /// Gives the connection up. Allocates nothing.
     pub fn into_connection(self) -> Connection<S>
         ensures same { result ≡ self.store }
+        ensures tables { Keeps (state S.Store self.store) self.office }
+        ensures ended { self.store.in_transaction ≡ false }
     {
         let Desk {
             alloc: _,

@@ -113,10 +113,7 @@ impl<S: Alter> PersistentOffice<S> {
         ensures saved { IsSaved self.old.office request result (state S.Store self.old.store) (state S.Store self.new.store) }
     {
         let mut next = self.office().copy()?;
-        let done = match make_change(self.alloc, &mut next, request) {
-            Ok(done) => done,
-            Err(refusal) => return Err(refusal),
-        };
+        let done = make_change(self.alloc, &mut next, request)?;
         next.fit();
         self.exchange(&mut next, done)
     }

@@ -41,7 +41,6 @@ fn serve_at<S: Alter + Drop>(
             let mut reader = Watched::new(stream);
             let mut writer = Watched::new(Vec::new(alloc));
             let came = serve_stream(alloc, &mut desk, &mut reader, &mut writer);
-            desk.office();
             let connection = desk.into_connection();
             connection.is_autocommit();
             match came {

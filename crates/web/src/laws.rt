@@ -10,7 +10,4 @@ use sqlite::Alter;
 pub fn stream_law<S: Alter>()
     ensures stay { AnsweredStay S.Store }
     ensures last { StreamLasts S.Store }
-{
-    desk::crash_law::<S>();
-    desk::lasting_law::<S>();
-}
+{}

@@ -22,7 +22,7 @@ did g c Done done =
       next = c.perform-status.new.desk;
       done = done;
       given_back = refl;
-      stands = c.office-in-Ok.ensures.tables;
+      stands = c.into_connection.ensures.tables;
     })
 
 pub returns-in-Ok-clause-printed : goal.returns-in-Ok-clause-printed

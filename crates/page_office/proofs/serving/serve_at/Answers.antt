@@ -24,8 +24,8 @@ returns-in-Ok-came-clause-served g c =
           subst (λ (s : Option SessionState). Serves AnswersMessage end_text (record { office = opened.office; session = s }) c.args.stream.now c.into_inner.result.items c.in-Ok-came.field-0.answered c.in-Ok-came.field-0.end (at_desk next))
           c.in-Ok.ensures.opened.no_session
           (serves_all AnswersMessage end_text (at_desk opened) c.args.stream.now c.serve_stream-came.new.reader.inner.now c.into_inner.result.items _ _ _ _ c.in-Ok-came.field-0 (at_desk next) (search rules) (search rules) refl (search rules) c.in-Ok-came.ensures.session.served);
-      stands = subst (λ (last : Held g.row.S.Denot). Keeps (state g.S.Store last) next.office) (sym given) c.office-in-Ok.ensures.tables;
-      settled = c.is_autocommit.ensures.settled (c.is_autocommit.ensures.value ∙ ap (λ (last : Held g.row.S.Denot). not last.in_transaction) given ∙ ap not c.office-in-Ok.ensures.ended);
+      stands = subst (λ (last : Held g.row.S.Denot). Keeps (state g.S.Store last) next.office) (sym given) c.into_connection-connection.ensures.tables;
+      settled = c.is_autocommit.ensures.settled (c.is_autocommit.ensures.value ∙ ap (λ (last : Held g.row.S.Denot). not last.in_transaction) given ∙ ap not c.into_connection-connection.ensures.ended);
     }
 
 pub returns-in-Err-clause-damaged : goal.returns-in-Err-clause-damaged

@@ -26,20 +26,20 @@ hindered_by storage result office next q done old new carried may transforms cau
 pub exchange-requires : goal.exchange-requires
 exchange-requires g c =
     let same = c.in_ok-next.ensures.same ∙ c.office.ensures.same in
-    record { transforms = subst (λ (o : State). Transforms c.in-Ok.done.changes.items o c.make_change.new.office) same c.in-Ok.ensures.transforms }
+    record { transforms = subst (λ (o : State). Transforms c.in_ok-done.done.changes.items o c.make_change.new.office) same c.in_ok-done.ensures.transforms }
 
 pub returns-clause-saved : goal.returns-clause-saved
 returns-clause-saved g c =
     let q = c.args.request in
     let old : State = c.args.self.now.office in
     let next : State = c.make_change.new.office in
-    let done = c.in-Ok.done in
+    let done = c.in_ok-done.done in
     let saved = c.exchange.ensures.saved in
     let same = c.in_ok-next.ensures.same ∙ c.office.ensures.same in
-    let made = subst (λ (o : State). Makes layers o q done.reply next) same c.in-Ok.ensures.made.1 in
-    let none = subst (λ (o : State). refusal layers o q ≡ None) same c.in-Ok.ensures.made.0 in
-    let transforms = subst (λ (o : State). Transforms done.changes.items o next) same c.in-Ok.ensures.transforms in
-    let may = subst (λ (o : State). MayChange o q done.changes.items) same c.in-Ok.ensures.changes in
+    let made = subst (λ (o : State). Makes layers o q done.reply next) same c.in_ok-done.ensures.made.1 in
+    let none = subst (λ (o : State). refusal layers o q ≡ None) same c.in_ok-done.ensures.made.0 in
+    let transforms = subst (λ (o : State). Transforms done.changes.items o next) same c.in_ok-done.ensures.transforms in
+    let may = subst (λ (o : State). MayChange o q done.changes.items) same c.in_ok-done.ensures.changes in
     let few = may_allowed old q done.changes.items c.office.ensures.fit none may in
     record {
       crash = call_carried q old next done (state g.S.Store c.args.self.now.store) (state g.S.Store c.exchange.new.self.store) none made c.fit.ensures.fit transforms c.office.ensures.tables saved.crash;
@@ -53,10 +53,8 @@ returns-clause-saved g c =
       ours = ours_so old done.changes.items (state g.S.Store c.args.self.now.store) (state g.S.Store c.exchange.new.self.store) c.office.ensures.tables c.office.ensures.live few (λ clean. omega (arith, saved.crash.clean, clean)) saved.stays_shut saved.stays;
     }
 
-pub returns-in-Err-clause-saved : goal.returns-in-Err-clause-saved
-returns-in-Err-clause-saved g c =
-    idle_saved c.args.self.now.office c.args.request (Err c.in-Err.refusal) (state g.S.Store c.args.self.now.store) _ refl (λ _. refl)
-    (λ told. let is : c.in-Err.refusal ≡ Storage = cc in c.make_change.ensures.unstored (c.in-Err.is ∙ ap Err is))
+pub returns-in_err-done-clause-saved : goal.returns-in_err-done-clause-saved
+returns-in_err-done-clause-saved g c = idle_saved c.args.self.now.office c.args.request _ (state g.S.Store c.args.self.now.store) _ refl (λ _. search rules) (search rules)
 
 pub returns-in_err-next-clause-saved : goal.returns-in_err-next-clause-saved
 returns-in_err-next-clause-saved g c = idle_saved c.args.self.now.office c.args.request _ (state g.S.Store c.args.self.now.store) _ refl (λ _. search rules) (search rules)
