@@ -1,4 +1,4 @@
-// ---- The office in this page: the service of spadesk.html, which tools/one_file.py puts into office.html.
+// ---- The office in this page: the service of spadesk.html, which tools/makers/one_file.py puts into office.html.
 // The office is the bytes of a database file, as the program writes it. The proved code, OFFICE, takes these and the bytes of requests, and
 // gives the answers and the file after them. The file stands in the browser's storage before a change is told.
 const EMPTY = { file: new Uint8Array(), turn: 0, copied: 0 }; // the bytes; how often they were changed; at which of these a copy was saved

@@ -2,7 +2,7 @@
 //!
 //! One thread plays the clients too, so each has sent all that it sends before it is accepted, and reads what it is answered once all are
 //! served. That a connection waits for bytes that come later is seen of the connection itself. Clients who send while they are served, and
-//! who read late, are played by `tools/clients.py`.
+//! who read late, are played by `tools/checks/clients.py`.
 
 use crate::in_memory::parted;
 use cli::{Outputs, run_command};

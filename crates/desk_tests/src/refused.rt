@@ -2,7 +2,7 @@
 //!
 //! A request for `ARM` bytes and `n` more is beyond any machine, so it is refused. An allocator that listens takes it for: refuse the nth
 //! request from here on. It grants the `ASK` bytes where that request came, as no other does. So with the system's allocator each
-//! row runs undisturbed, and under `tools/memory/refuse_each_in_tests.py` once for each request for memory that it makes.
+//! row runs undisturbed, and under `tools/checks/memory/refuse_each_in_tests.py` once for each request for memory that it makes.
 
 use desk::Desk;
 use office_model::Refusal;

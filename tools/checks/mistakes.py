@@ -1,0 +1,182 @@
+#!/usr/bin/env python3
+"""Tries mistakes in the bodies of functions, many in one check: the prover must refuse each at a goal of its own function. Tries twins, right
+bodies of another shape, next to them: it must prove them.
+
+tools/checks/mistakes.py [CRATE..]             the mistakes and twins of these crates, or of all
+tools/checks/mistakes.py --mutants [CRATE..]   the mutants, too, which `rt ci` tries one by one
+tools/checks/mistakes.py --can                 whether this is the toolchain whose parts this tool calls by name
+
+What an edit is, `edits.py` says. It runs after `rt ci`, which leaves the libraries below in crates/*/out.
+
+The prover judges each function by the contracts of what it calls, and by no body. So edits of different functions stand in one text, and each
+is judged at its own function: a round. Where a function is not judged, since one that it calls was refused, its edit goes into a further
+round, by itself if need be. One line a mistake says which goals of its own function were refused. A mistake that is proved fails the run, and
+so does a twin that is not, one whose text no longer stands, which does not compile, or of which the prover says nothing by itself.
+"""
+import collections
+import concurrent.futures
+import os
+import pathlib
+import re
+import shutil
+import subprocess
+import sys
+import tempfile
+
+sys.path.append(f"{sys.path[0]}/..")
+from edits import FOLDERS, edits
+from office import TOP
+
+sys.path.insert(0, os.path.dirname(os.path.realpath(shutil.which("rt"))))
+import rtlib
+
+KIT = "rattle-kit-13f"
+JUDGED = re.compile(r"^fn (\S+): (proved|not proved|no proof: (?!it calls)|no proof: it calls|could not tell)", re.M)
+CALLS = re.compile(r"^fn [^:]+::(\S+): (?:not proved; |no proof: )it calls (.*), which (?:is|are) not proved", re.M)
+GOAL = re.compile(r"^(?:\./)?proofs/(\S+)/\w+\.antt:\d+:\d+: error: `([^`]+)`", re.M)
+
+
+def reached(calls, name):
+    """The functions to which calls lead from this one, as far as checks have said."""
+    found, left = set(), [name]
+    while left:
+        more = calls[left.pop()] - found
+        found |= more
+        left += more
+    return found
+
+
+def packed(edits, calls):
+    """The first edits whose functions differ and do not reach one another, as far as is known; and those that are left."""
+    round, left, struck, below = [], [], set(), set()
+    for edit in edits:
+        names = edit.struck | set().union(*(reached(calls, name) for name in edit.struck))
+        if round and (edit.is_anywhere or round[0].is_anywhere or edit.part != round[0].part or edit.struck & below or names & struck):
+            left.append(edit)
+        else:
+            round.append(edit)
+            struck |= edit.struck
+            below |= names
+    return round, left
+
+
+def applied(edit, room):
+    """Puts an edit's texts into a room; not where one no longer stands there once, for what other edits have put."""
+    texts = {}
+    for file, old, new in edit.pairs:
+        text = texts.get(file) or pathlib.Path(room, file).read_text(encoding="utf-8")
+        if text.count(old) != 1:
+            return False
+        texts[file] = text.replace(old, new)
+    for file, text in texts.items():
+        pathlib.Path(room, file).write_text(text, encoding="utf-8")
+    return True
+
+
+def check(crate, round, kept):
+    """What a check of the crate with these edits prints, over what earlier checks kept; the edits that stood in it; its processor seconds."""
+    with tempfile.TemporaryDirectory() as room:
+        for part in ("src", "specs", "proofs"):
+            if os.path.isdir(f"{crate.folder}/{part}"):
+                shutil.copytree(f"{crate.folder}/{part}", f"{room}/{part}")
+        round = [edit for edit in round if applied(edit, room)]
+        # one that stands in no function may change any
+        names = () if any(edit.is_anywhere for edit in round) else sorted({name for edit in round for name in edit.struck})
+        only = [word for name in names for word in ("--only", name)]
+        command = [rtlib.RATTLE, "check", *crate.words(["--jobs", "1"], keeps=False), *only, "--incremental", kept]
+        how = {"cwd": room, "stdin": subprocess.DEVNULL, "stdout": subprocess.PIPE, "stderr": subprocess.STDOUT, "text": True, "errors": "replace"}
+        ran = subprocess.Popen([*rtlib.guarded(), *command], **how)
+        said = ran.stdout.read()
+        _, status, used = os.wait4(ran.pid, 0)
+        ran.returncode = os.waitstatus_to_exitcode(status)
+        return said, round, used.ru_utime + used.ru_stime
+
+
+def short(name):
+    """A function as an edit names it: a method by its type alone."""
+    parts = name.split("::")
+    return "::".join(parts[-2:]) if parts[-2:][0][:1].isupper() else name
+
+
+def own(edit, name):
+    """Whether the function of this name, as the prover has it, is one that the edit strikes, or a closure in one."""
+    inside = name.partition("::")[2]
+    closures = [f"{it.rpartition('::')[0]}::fn::{it.rpartition('::')[2]}::".lstrip(":") for it in edit.struck]
+    return edit.is_anywhere or short(inside) in edit.struck or any(it in inside for it in closures)
+
+
+def judged(edit, said):
+    """What a check says of an edit: the goals that were refused, that it is proved, or nothing."""
+    lines = [(name, how) for name, how in JUDGED.findall(said) if own(edit, name)]
+    refused = [name for name, how in lines if how in ("not proved", "no proof: ")]
+    if refused:
+        places = {name.partition("::")[2].replace("::", "/") for name in refused}
+        goals = [goal for place, goal in GOAL.findall(said) if place in places]
+        return "refused", f"{refused[0].partition('::')[2]}: {', '.join(dict.fromkeys(goals)) or 'a search that failed'}"
+    if lines and all(how == "proved" for _, how in lines):
+        return "proved", ""
+    return "unjudged", next(iter(said.splitlines()), "")
+
+
+def tried(crate, edits):
+    """What becomes of each edit of a crate, round by round, and the processor seconds of each check."""
+    seconds = []
+    found = {edit: ("faulty", edit.fault) for edit in edits if edit.fault}
+    left, calls = [edit for edit in edits if not edit.fault], collections.defaultdict(set)
+    with tempfile.TemporaryDirectory() as kept:
+        while left:
+            round, later = packed(left, calls)
+            said, stood, used = check(crate, round, kept)
+            seconds.append(used)
+            for name, called in CALLS.findall(said):
+                calls[short(name)].update(short(it.partition("::")[2]) for it in re.findall("`([^`]+)`", called))
+            found.update((edit, judged(edit, said)) for edit in stood)
+            unjudged = [edit for edit in stood if found[edit][0] == "unjudged" and len(stood) > 1]
+            # where nothing was judged, as where the text of one does not compile, each half is tried by itself
+            for number, edit in enumerate(unjudged if len(unjudged) == len(stood) else ()):
+                edit.part += (2 * number < len(unjudged),)
+            left = unjudged + [edit for edit in round if edit not in stood] + later
+    return found, seconds
+
+
+def crates_of(found):
+    """The crates of these edits, as the toolchain knows them; the libraries below must be there."""
+    crates = {}
+    for name in {edit.crate for edit in found}:
+        crates[name] = rtlib.Crate(os.path.join(TOP, "crates", name), TOP, {})
+        missing = [it.name for it in crates[name].below() if not os.path.isdir(it.rlib)]
+        if missing:
+            sys.exit(f"mistakes: {missing[0]} is not built: run `rt ci` first")
+    return crates
+
+
+def main(*words):
+    if "--can" in words:
+        return subprocess.run(["rt", "version"], capture_output=True, text=True).stdout.split()[:1] != [KIT]
+    found = edits([word for word in words if not word.startswith("--")], FOLDERS if "--mutants" in words else FOLDERS[1:])
+    crates, by_crate = crates_of(found), collections.defaultdict(list)
+    for edit in found:
+        by_crate[edit.crate].append(edit)
+    # its first call sets the handler of a signal, which only this thread may
+    rtlib.guarded()
+    counted, spent = collections.Counter(), []
+    # a check of a crate takes four GB at the most, but for those of tests, which have no mistakes
+    with concurrent.futures.ThreadPoolExecutor(len(os.sched_getaffinity(0))) as pool:
+        for result in concurrent.futures.as_completed(pool.submit(tried, crates[name], by_crate[name]) for name in by_crate):
+            outcomes, seconds = result.result()
+            spent += seconds
+            name = next(iter(outcomes)).crate
+            print(f"== {name}: {len(outcomes)} edits in {len(seconds)} checks, {sum(seconds):.0f} processor seconds ({' '.join(f'{it:.0f}' for it in seconds)})")
+            for edit, (how, goal) in sorted(outcomes.items(), key=lambda it: it[0].name):
+                is_well = how == edit.wanted
+                counted[edit.is_twin, how, is_well] += 1
+                print(f"{edit.crate:12} {edit.name:45} {how if is_well else how.upper()}: {goal}", flush=True)
+    of = lambda *wanted: sum(n for it, n in counted.items() if all(a in (None, b) for a, b in zip(wanted, it)))
+    print(f"{of(False, 'refused')} of {of(False)} mistakes are refused at goals of their own functions, {of(True, 'proved')} of {of(True)} twins are proved; "
+          f"{len(spent)} checks, {sum(spent):.0f} processor seconds")
+    print(f"{of(None, None, True)} passed, {of(None, None, False)} failed")
+    return 1 if of(None, None, False) else 0
+
+
+if __name__ == "__main__":
+    sys.exit(main(*sys.argv[1:]))
