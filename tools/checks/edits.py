@@ -4,6 +4,7 @@ An edit is a file crates/CRATE/FOLDER/NAME.edit: a line `why:`, and for each tex
 `rt ci` tries each by itself; of `mistakes` and `twins` `mistakes.py` tries many in one check. A mutant and a mistake must be refused, a twin must
 be proved. A twin that says `refused:` is right, and is refused for its shape alone, as that line tells.
 """
+import itertools
 import re
 
 from office import listed, read
@@ -29,23 +30,31 @@ def owner_of(head):
     return bare(kind) + bare(named) if of else bare(head.split(":")[0])
 
 
+def is_aside(old, new):
+    """Whether an import is changed, or a function put before another one: it strikes nothing."""
+    return ASIDE.match(old) or FUNCTION.match(old) and new.endswith(old)
+
+
 class Text:
     """A file of code: where its functions stand, by line, and how the prover names them below the crate."""
 
     def __init__(self, path, text):
         parts = path.removeprefix("src/").removesuffix(".rt").split("/")
         module = [part for part in parts if part not in ("lib", "main", "mod")]
-        self.functions, owner, self.text = [], [], text
+        # a trait's own functions, and those of an impl of one, stand there once
+        self.functions, self.once, owner, is_once, self.text = [], set(), [], False, text
         for number, line in enumerate(text.split("\n")):
             block, function = OWNER.match(line), FUNCTION.match(line)
             if block:
-                owner = [owner_of(block[1])]
+                owner, is_once = [owner_of(block[1])], "trait" in line.split("<")[0] or " for " in line
             elif line == "}":
                 owner = []
                 self.functions.append((number + 1, None))
             if function:
                 # a method by its type alone: the prover names it by the module of the type, or of the impl of a trait
                 self.functions.append((number, "::".join([*(owner if function[1] and owner else module), function[2]])))
+                if owner and is_once:
+                    self.once.add(self.functions[-1][1])
 
     def at(self, position):
         """The function in which this position stands, or nothing."""
@@ -55,6 +64,18 @@ class Text:
                 break
             found = name
         return found
+
+    def span(self, name):
+        """Where a function begins and ends, with its attributes and without its comments."""
+        lines = self.text.split("\n")
+        at = next(number for number, it in self.functions if it == name)
+        indent = FUNCTION.match(lines[at])[1]
+        first = at
+        while lines[first - 1].startswith(indent + "#["):
+            first -= 1
+        last = lines.index(indent + "}", at)
+        begins = [0, *itertools.accumulate(len(line) + 1 for line in lines)]
+        return begins[first], begins[last + 1]
 
 
 class Edit:
@@ -87,14 +108,42 @@ class Edit:
                 self.fault = f"its old text stands in {file} {text.count(old)} times"
                 return
             at = text.index(old)
-            # an import, or a function that is put before another one, strikes nothing
-            if not ASIDE.match(old) and not (FUNCTION.match(old) and new.endswith(old)):
+            if not is_aside(old, new):
                 self.struck.add(Text(file, text).at(at + len(old) - len(old.lstrip())))
             self.texts[file] = text.replace(old, new)
         self.is_anywhere = not self.struck or None in self.struck
         # edits of one part may stand in one round
         self.part = ()
         self.struck.discard(None)
+        self.copied = None
+
+    def copy(self, number):
+        """Has the edit strike a copy of its function, with this number, where one can stand beside it."""
+        files = {file for file, old, new in self.pairs if not is_aside(old, new)}
+        if self.is_anywhere or len(self.struck) > 1 or len(files) > 1:
+            return
+        (name,), (file,) = self.struck, files
+        text = Text(file, read("crates", self.crate, file))
+        if name not in text.once:
+            self.copied, self.struck = name, {f"{name}_tried_{number}"}
+
+    def changes(self):
+        """What the edit puts into its crate: of a file, from where to where, which text."""
+        found, copies = [], {}
+        for file, old, new in self.pairs:
+            text = Text(file, read("crates", self.crate, file))
+            at = text.text.index(old)
+            if not self.copied or is_aside(old, new):
+                found.append((file, at, at + len(old), new))
+                continue
+            first, last = text.span(self.copied)
+            copy = copies.get(file) or text.text[first:last]
+            copies[file] = copy.replace(old, new)
+        for file, copy in copies.items():
+            last = Text(file, read("crates", self.crate, file)).span(self.copied)[1]
+            own, tried = self.copied.rpartition("::")[2], next(iter(self.struck)).rpartition("::")[2]
+            found.append((file, last, last, re.sub(rf"\bfn {own}\b", f"fn {tried}", copy, count=1)))
+        return found
 
 
 def edits(crates, folders):

@@ -8,10 +8,12 @@ tools/checks/mistakes.py --can                 whether this is the toolchain who
 
 What an edit is, `edits.py` says. It runs after `rt ci`, which leaves the libraries below in crates/*/out.
 
-The prover judges each function by the contracts of what it calls, and by no body. So edits of different functions stand in one text, and each
-is judged at its own function: a round. Where a function is not judged, since one that it calls was refused, its edit goes into a further
-round, by itself if need be. One line a mistake says which goals of its own function were refused. A mistake that is proved fails the run, and
-so does a twin that is not, one whose text no longer stands, which does not compile, or of which the prover says nothing by itself.
+The prover judges each function by the contracts of what it calls, and by no body. So each edit strikes a copy of its function, which has the
+same contract and the same stored proof, and all edits of a crate stand in one text and are judged in one check: a round. A method of a trait
+has no copy, nor have several functions that one edit strikes: there it strikes what it names. Where a function is then not judged, since one
+that it calls was refused, its edit goes into a further round, by itself if need be. One line a mistake says which goals of its own function
+were refused. A mistake that is proved fails the run, and so does a twin that is not, one whose text no longer stands, which does not compile,
+or of which the prover says nothing by itself.
 """
 import collections
 import concurrent.futures
@@ -60,17 +62,34 @@ def packed(edits, calls):
     return round, left
 
 
-def applied(edit, room):
-    """Puts an edit's texts into a room; not where one no longer stands there once, for what other edits have put."""
-    texts = {}
-    for file, old, new in edit.pairs:
-        text = texts.get(file) or pathlib.Path(room, file).read_text(encoding="utf-8")
-        if text.count(old) != 1:
-            return False
-        texts[file] = text.replace(old, new)
-    for file, text in texts.items():
+def applied(edits, room):
+    """Puts edits into a room, and returns those that stand there: one that strikes what another one has changed does not."""
+    stood, put = [], collections.defaultdict(list)
+    for edit in edits:
+        changes = edit.changes()
+        if not any(first < other[1] and other[0] < last for file, first, last, _ in changes for other in put[file]):
+            stood.append(edit)
+            for file, *change in changes:
+                put[file].append(change)
+    for file, changes in put.items():
+        text = pathlib.Path(room, file).read_text(encoding="utf-8")
+        for first, last, new in sorted(changes, reverse=True):
+            text = text[:first] + new + text[last:]
         pathlib.Path(room, file).write_text(text, encoding="utf-8")
-    return True
+    for edit in stood:
+        if edit.copied:
+            copy_answers(room, edit.copied.split("::"), next(iter(edit.struck)).split("::"))
+    return stood
+
+
+def copy_answers(room, named, tried):
+    """Gives a copy of a function the stored proof of the function."""
+    for folder in pathlib.Path(room, "proofs").glob("/".join(["**", *named])):
+        to = folder.parent / tried[-1]
+        shutil.copytree(folder, to)
+        for file in to.iterdir():
+            text = file.read_text(encoding="utf-8")
+            file.write_text(text.replace(f".{'.'.join(named)}.", f".{'.'.join(tried)}."), encoding="utf-8")
 
 
 def check(crate, round, kept):
@@ -79,7 +98,7 @@ def check(crate, round, kept):
         for part in ("src", "specs", "proofs"):
             if os.path.isdir(f"{crate.folder}/{part}"):
                 shutil.copytree(f"{crate.folder}/{part}", f"{room}/{part}")
-        round = [edit for edit in round if applied(edit, room)]
+        round = applied(round, room)
         # one that stands in no function may change any
         names = () if any(edit.is_anywhere for edit in round) else sorted({name for edit in round for name in edit.struck})
         only = [word for name in names for word in ("--only", name)]
@@ -122,6 +141,9 @@ def tried(crate, edits):
     """What becomes of each edit of a crate, round by round, and the processor seconds of each check."""
     seconds = []
     found = {edit: ("faulty", edit.fault) for edit in edits if edit.fault}
+    for number, edit in enumerate(edits):
+        if not edit.fault:
+            edit.copy(number)
     left, calls = [edit for edit in edits if not edit.fault], collections.defaultdict(set)
     with tempfile.TemporaryDirectory() as kept:
         while left:
@@ -162,7 +184,8 @@ def main(*words):
     counted, spent = collections.Counter(), []
     # a check of a crate takes four GB at the most, but for those of tests, which have no mistakes
     with concurrent.futures.ThreadPoolExecutor(len(os.sched_getaffinity(0))) as pool:
-        for result in concurrent.futures.as_completed(pool.submit(tried, crates[name], by_crate[name]) for name in by_crate):
+        largest = sorted(by_crate, key=lambda name: -len(by_crate[name]))
+        for result in concurrent.futures.as_completed(pool.submit(tried, crates[name], by_crate[name]) for name in largest):
             outcomes, seconds = result.result()
             spent += seconds
             name = next(iter(outcomes)).crate
