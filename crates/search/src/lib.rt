@@ -34,7 +34,7 @@ use crate::lot::draw;
 use crate::state::Network;
 use spa::{Aim, Instance};
 use std::alloc::{AllocError, Global};
-use verdict::{Proved, accept, check, verdict_law};
+use verdict::{Proved, accept, check};
 
 /// Returns a matching of the instance that is best by the aim, and of those the one that the lot takes, with prices that prove it, if the
 /// search came to one: its prices are checked. An `Err` is out of memory.
@@ -65,7 +65,6 @@ pub fn settle(
     ensures proved { IfOk result (λ s. IsProvedBest (order aim) instance.now.shape s.matching.places.items s.prices) }
     ensures best { IfOk result (λ s. IsBest aim instance.now.shape (pairs instance.now.shape s.matching.places.items)) }
 {
-    verdict_law(instance);
     let mut network = Network::of(alloc, instance, aim, &proved)?;
     draw(alloc, &mut network)?;
     let matching = network.matching(alloc)?;

@@ -1,9 +1,10 @@
 -- Prices of a network of an instance prove its places best: read by place they are none below zero, they cover each listed
 -- pair, and they add up to what the places weigh. So the places are a best matching.
 use Rattle.std.proofs.Common.{◌≡◌, ℕ, zero, suc, ◌+◌, ◌<◌, ◌≤◌, inl, inr, ℤ, pos, ◌+ℤ◌, List, [], ◌∷◌, length, map, slice_get, slice_index, get_or, Contains, Some, refl, ap, sym, ◌∙◌, arith, subst}
-use Rattle.solver.proofs.Common.{cases_lt, get_or_default, get_or_past, slice_get-get_or, COMPONENTS, RANKS, as_read, order, none, plus, Aim, Greedy, Generous, read_alike, read_twice, Shape, IsSound, IsPlaceOf, list_of, choice_at, supervisor_of, IsBest, rank_in, weight, weight_row, pairs, IsMatched, value, ProveBest, Places, lex_ops, row, row-places_of, IsLexicographic, aim_sums, best_from_unbeaten, read_sum, rank_of_place, Seen, shape_of, ArePrices, IsPriced, worth_price, price_total, total_worth, worth_of, weighed, IsOf}
+use Rattle.solver.proofs.Common.{cases_lt, get_or_default, get_or_past, slice_get-get_or, COMPONENTS, RANKS, as_read, order, none, plus, Aim, Greedy, Generous, read_alike, read_twice, Shape, IsSound, IsPlaceOf, list_of, choice_at, supervisor_of, IsBest, rank_in, weight, weight_row, pairs, IsMatched, value, ProveBest, Places, lex_ops, row, row-places_of, IsLexicographic, aim_sums, best_from_unbeaten, read_sum, rank_of_place, Seen, shape_of, ArePrices, IsPriced, worth_price, price_total, total_worth, worth_of, weighed, IsOf, IsNetworkKept}
 use Rattle.spa.specs.Laws.{AtMost}
 use Rattle.spa.proofs.Duality.{listed_student, best_from_prices}
+use Rattle.spa.proofs.LexOrder.{lexicographic}
 use Rattle.solver.proofs.ListWorths.{projects_of-weighed_from, length-weighed_from, entry-weighed_from}
 use Rattle.solver.proofs.Totals.{value_read, weight_is}
 use Rattle.solver.proofs.Better.{moved}
@@ -141,4 +142,8 @@ module _ (aim : Aim) (law : IsLexicographic COMPONENTS) where
         let z : ℕ → ℕ → ℤ = rows priced.supervisors in
         let proved : ProveBest (order aim) i (pairs i v.places) u y z =
         prove_best priced.students priced.projects priced.supervisors priced.prices u y z (λ _ _ _. refl) (λ _ _ _. refl) (λ _ _ _. refl) (matched_is priced) in
-        best_from_unbeaten aim i (pairs i v.places) (best_from_prices (aim_sums aim) i (pairs i v.places) u y z sound proved)
+        best_from_unbeaten aim i (pairs i v.places) (best_from_prices (aim_sums aim) i (pairs i v.places) u y z proved)
+
+-- so the places of a session's network are a best matching of those admitted
+pub kept_best : (aim : Aim) (v : Seen (Places COMPONENTS)) (students : ℕ) → IsNetworkKept aim v students → IsBest aim (shape_of v) (pairs (shape_of v) v.places)
+kept_best aim v students kept = places_best aim lexicographic (shape_of v) v kept.sound kept.weighed kept.weighed.priced

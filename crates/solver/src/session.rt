@@ -4,12 +4,10 @@
 ghost use Rattle.std.specs.Prelude.{◌≡◌, ◌≢◌, ℕ, ◌<◌, ◌≤◌, List, length, slice_index, All, AllPairs, IfOk, OnErr};
 ghost use Rattle.spa.specs.declared.TheConstants.{MAX_SUPERVISORS, MAX_PROJECTS, MAX_STUDENTS, MAX_QUOTA, RANKS};
 ghost use Rattle.spa.specs.declared.aim.Aim.{Aim};
-ghost use Rattle.spa.specs.Shape.{IsSound};
 ghost use Rattle.spa.specs.Matching.{Pair, IsBest, profile};
-ghost use Rattle.spa.specs.Matched.{pairs, HasPlaces};
+ghost use Rattle.spa.specs.Matched.{pairs};
 ghost use Rattle.network.specs.Seen.{shape_of};
 ghost use Rattle.solver.specs.SessionState.{nobody, IsAdmitted, ReturnsIfPlaced};
-ghost use Rattle.solver.specs.Inside.Solved.{IsOf};
 ghost use Rattle.solver.specs.Inside.Kept.{IsNetworkKept};
 
 use crate::worths::admit_weighed;
@@ -18,21 +16,9 @@ use spa::{Aim, Lex, RANKS};
 use std::alloc::{AllocError, Global};
 use std::marker::Model;
 
-/// A law with nothing to do: the places of a network whose worths are weights, as an aim reads them, stand for a matching
-/// that is best by the aim.
-fn best(network: &Network<Lex>)
-    requires sound { IsSound (shape_of network.now) }
-    ensures places { HasPlaces (shape_of network.now) network.now.places }
-    ensures best { (aim : Aim) → IsOf aim (shape_of network.now) network.now
-        → IsBest aim (shape_of network.now) (pairs (shape_of network.now) network.now.places) }
-{
-    network.priced();
-}
-
 /// Returns how many students have a place.
 fn placed(network: &Network<Lex>, students: usize) -> u32
-    requires kept { (aim : Aim) × IsNetworkKept aim network.now students }
-    requires places { HasPlaces (shape_of network.now) network.now.places }
+    requires { (aim : Aim) × IsNetworkKept aim network.now students }
     ensures count { result ≡ length (pairs (shape_of network.now) network.now.places) }
     ensures few { result ≤ students }
 {
@@ -47,8 +33,7 @@ fn placed(network: &Network<Lex>, students: usize) -> u32
 
 /// Returns how many students have place 1 of their lists and so on.
 fn ranked(network: &Network<Lex>, students: usize) -> [u32; RANKS]
-    requires kept { (aim : Aim) × IsNetworkKept aim network.now students }
-    requires places { HasPlaces (shape_of network.now) network.now.places }
+    requires { (aim : Aim) × IsNetworkKept aim network.now students }
     ensures profile { (k : ℕ) → k < RANKS → slice_index result k ≡ profile (shape_of network.now) (pairs (shape_of network.now) network.now.places) k }
     ensures few { (k : ℕ) → k < RANKS → slice_index result k ≤ students }
     ensures whole { length result ≡ RANKS }
@@ -129,20 +114,14 @@ impl Session {
         Ok(admitted)
     }
 
-    /// The law that the students admitted so far have a best matching: no matching has more pairs, and none with as many
-    /// has a better profile by the session's aim.
-    pub fn matched(&self)
-        ensures { (M : List Pair) × IsBest self.now.aim self.now.shape M }
-    {
-        best(&self.network);
-    }
-
     /// Returns how many pairs a best matching of the students admitted so far has. Allocates nothing.
     pub fn size(&self) -> u32
         ensures size { (M : List Pair) → IsBest self.now.aim self.now.shape M → result ≡ length M }
         ensures few { result ≤ MAX_STUDENTS }
+
+        // There is one: no matching has more pairs, and none with as many has a better profile by the session's aim.
+        ensures matched { (M : List Pair) × IsBest self.now.aim self.now.shape M }
     {
-        best(&self.network);
         placed(&self.network, self.students)
     }
 
@@ -152,7 +131,6 @@ impl Session {
         ensures few { (k : ℕ) → k < RANKS → slice_index result k ≤ MAX_STUDENTS }
         ensures whole { length result ≡ RANKS }
     {
-        best(&self.network);
         ranked(&self.network, self.students)
     }
 

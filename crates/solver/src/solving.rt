@@ -17,7 +17,7 @@ use network::Network;
 use search::{search, settle};
 use spa::{Aim, COMPONENTS, Instance, Lex, Matching, RANKS};
 use std::alloc::{AllocError, Global};
-use verdict::{Prices, Proved as Solved, verdict_law};
+use verdict::{Prices, Proved as Solved};
 
 /// Returns a network of the instance's rolls that has admitted all its students, with the weight of each pair, as the aim reads
 /// it, as its worth.
@@ -91,7 +91,6 @@ fn admitted(alloc: Global, instance: &Instance, aim: Aim) -> Result<Solved, Allo
     ensures best { IfOk result (λ s. IsBest aim instance.now.shape (pairs instance.now.shape s.matching.places.items)) }
 {
     let network = admit_all(alloc, instance, aim)?;
-    network.priced();
     let matching = matching_of(alloc, &network, instance.student_count())?;
     let prices = prices_of(alloc, aim, &network)?;
     Ok(Solved { matching, prices })
@@ -111,7 +110,6 @@ pub fn found_or_admitted(
     ensures best { IfOk result (λ s. IsBest aim instance.now.shape (pairs instance.now.shape s.matching.places.items)) }
     ensures taken { IfSome found (λ s. result ≡ Ok s) }
 {
-    verdict_law(instance);
     match found {
         Some(solved) => Ok(solved),
         None => settle(alloc, instance, aim, admitted(alloc, instance, aim)?),

@@ -15,6 +15,4 @@ use spa::Instance;
 pub fn verdict_law(instance: &Instance)
     ensures { (aim : Aim) (ks : List (Option ℕ)) (p : Prices) → IsProvedBest (order aim) instance.now.shape ks p
         → IsBest aim instance.now.shape (pairs instance.now.shape ks) }
-{
-    instance.fit();
-}
+{}

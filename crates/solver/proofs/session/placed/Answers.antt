@@ -6,7 +6,7 @@ use Rattle.solver.proofs.session.placed.Goals.{in-Some, in_default}
 
 pub loop-student-preserved : goal.loop-student-preserved
 loop-student-preserved c =
-    let it = place_held c.requires.kept.0 c.args.network.now c.args.students c.loop-student.student c.place_of.result c.requires.kept.1 c.requires.places.one_each c.loop-student-test.true c.place_of.ensures in
+    let it = place_held c.requires.0 c.args.network.now c.args.students c.loop-student.student c.place_of.result c.requires.1 c.requires.1.weighed.priced.matched.places.one_each c.loop-student-test.true c.place_of.ensures in
     let so_far = c.loop-student.invariant.so_far in
     let small = c.loop-student.invariant.small in
     elim c.match-place_of.branch [

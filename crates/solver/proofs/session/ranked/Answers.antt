@@ -19,14 +19,14 @@ loop-student-preserved c =
     let i : Shape = shape_of c.args.network.now in
     let ks : List (Option ℕ) = c.args.network.now.places in
     let s : ℕ = c.loop-student.student in
-    let it = place_held c.requires.kept.0 c.args.network.now c.args.students s c.place_of.result c.requires.kept.1 c.requires.places.one_each c.loop-student-test.true c.place_of.ensures in
+    let it = place_held c.requires.0 c.args.network.now c.args.students s c.place_of.result c.requires.1 c.requires.1.weighed.priced.matched.places.one_each c.loop-student-test.true c.place_of.ensures in
     let inv = c.loop-student.invariant in
     elim c.match-place_of.branch [
       | in-Some w ↦
           let p : ℕ = w.in-Some.place in
-          let inside : IsPlaceOf (list_of i s) p = c.requires.places.in_list s p (c.place_of.ensures ∙ ap Some w.in-Some.is) in
-          let short : length (list_of i s) ≤ RANKS = list_short i c.requires.kept.1.sound s in
-          let ranks : rank_in (list_of i s) (choice_at (list_of i s) p) ≡ p = rank_of_place i c.requires.kept.1.sound s p inside in
+          let inside : IsPlaceOf (list_of i s) p = c.requires.1.weighed.priced.matched.places.in_list s p (c.place_of.ensures ∙ ap Some w.in-Some.is) in
+          let short : length (list_of i s) ≤ RANKS = list_short i c.requires.1.sound s in
+          let ranks : rank_in (list_of i s) (choice_at (list_of i s) p) ≡ p = rank_of_place i c.requires.1.sound s p inside in
           let more = λ (k : ℕ). one_more c.loop-student.counts p k (omega arith) (omega arith) in
           record {
             whole = rw w.counts-is (length-set _ _ _ ∙ inv.whole);
@@ -48,7 +48,7 @@ loop-student-preserved c =
 pub returns-clause-profile : goal.returns-clause-profile
 returns-clause-profile c =
     let i : Shape = shape_of c.args.network.now in
-    let past : drop c.loop-student.student i.students ≡ [] = drop_of_length-le i.students (omega (arith, length-map c.args.network.now.lists (map (λ e. e.0)), c.requires.kept.1.count, c.loop-student-test.false)) in
+    let past : drop c.loop-student.student i.students ≡ [] = drop_of_length-le i.students (omega (arith, length-map c.args.network.now.lists (map (λ e. e.0)), c.requires.1.count, c.loop-student-test.false)) in
     λ k h. let all = rw past at (c.loop-student.invariant.so_far k h) in omega (arith, all)
 
 pub returns-clause-few : goal.returns-clause-few
@@ -58,16 +58,16 @@ pub returns-clause-whole : goal.returns-clause-whole
 returns-clause-whole c = c.loop-student.invariant.whole
 
 pub offset_bounds-counts-place : goal.offset_bounds-counts-place
-offset_bounds-counts-place c = omega (arith, placed_within c.args.network.now c.loop-student.student c.in-Some.place c.requires.kept.1 c.requires.places (c.place_of.ensures ∙ ap Some c.in-Some.is))
+offset_bounds-counts-place c = omega (arith, placed_within c.args.network.now c.loop-student.student c.in-Some.place c.requires.1 c.requires.1.weighed.priced.matched.places (c.place_of.ensures ∙ ap Some c.in-Some.is))
 
 pub bounds-counts-place : goal.bounds-counts-place
-bounds-counts-place c = omega (arith, placed_within c.args.network.now c.loop-student.student c.in-Some.place c.requires.kept.1 c.requires.places (c.place_of.ensures ∙ ap Some c.in-Some.is))
+bounds-counts-place c = omega (arith, placed_within c.args.network.now c.loop-student.student c.in-Some.place c.requires.1 c.requires.1.weighed.priced.matched.places (c.place_of.ensures ∙ ap Some c.in-Some.is))
 
 pub bounds-counts-place-in-Some : goal.bounds-counts-place-in-Some
-bounds-counts-place-in-Some c = omega (arith, placed_within c.args.network.now c.loop-student.student c.in-Some.place c.requires.kept.1 c.requires.places (c.place_of.ensures ∙ ap Some c.in-Some.is))
+bounds-counts-place-in-Some c = omega (arith, placed_within c.args.network.now c.loop-student.student c.in-Some.place c.requires.1 c.requires.1.weighed.priced.matched.places (c.place_of.ensures ∙ ap Some c.in-Some.is))
 
 pub overflow_add-counts : goal.overflow_add-counts
 overflow_add-counts c =
-    let w = placed_within c.args.network.now c.loop-student.student c.in-Some.place c.requires.kept.1 c.requires.places (c.place_of.ensures ∙ ap Some c.in-Some.is) in
+    let w = placed_within c.args.network.now c.loop-student.student c.in-Some.place c.requires.1 c.requires.1.weighed.priced.matched.places (c.place_of.ensures ∙ ap Some c.in-Some.is) in
     let small = c.loop-student.invariant.small (c.in-Some.place - 1) (omega (arith, w)) in
-    omega (arith, small, c.loop-student-test.true, c.requires.kept.1.few)
+    omega (arith, small, c.loop-student-test.true, c.requires.1.few)

@@ -2,4 +2,4 @@ use Rattle.verdict.proofs.Best.{proved_is_best}
 use Rattle.verdict.proofs.laws.verdict_law.Goals as goal
 
 pub returns : goal.returns
-returns c = λ aim ks p b. proved_is_best c.args.instance.now.shape c.fit.ensures.sound aim ks p b
+returns c = proved_is_best c.args.instance.now.shape
