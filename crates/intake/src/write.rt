@@ -6,7 +6,7 @@ ghost use Rattle.spa.specs.Text.{is_code};
 ghost use Rattle.spa.specs.declared.TheConstants.{COMPONENTS};
 ghost use Rattle.spa.specs.declared.aim.Aim.{Aim};
 ghost use Rattle.spa.specs.Instance.{supervisor_codes, project_codes, student_codes};
-ghost use Rattle.spa.specs.Named.{Named, instance_of, supervisors_named, projects_named};
+ghost use Rattle.spa.specs.Named.{IsFit, Named, instance_of, supervisors_named, projects_named};
 ghost use Rattle.spa.specs.Matched.{IsMatched, HasPlaces};
 ghost use Rattle.verdict.specs.Verdict.{HasShape};
 ghost use Rattle.intake.specs.declared.TheConstants.{MAX_BYTES};
@@ -131,6 +131,7 @@ fn write_instance(out: &mut String, instance: &Instance, aim: Aim) -> Result<(),
     ensures supervisors { OnOk result (All (λ c. IsTrue (is_code c)) instance.now.supervisor_codes) }
     ensures projects { OnOk result (All (λ c. IsTrue (is_code c)) instance.now.project_codes) }
     ensures students { OnOk result (All (λ c. IsTrue (is_code c)) instance.now.student_codes) }
+    ensures fit { OnOk result (IsFit instance.now) }
 {
     write_aim(out, aim)?;
     let supervisors = instance.supervisor_codes();
@@ -196,7 +197,6 @@ pub fn write_round(
     // So the law of round texts holds of them.
     ensures parts { OnOk result (IsRoundParts (written instance.now aim proof.entry)) }
 {
-    instance.fit();
     let mut out = String::new(alloc);
     write_instance(&mut out, instance, aim)?;
     if let Some((matching, prices)) = proof {

@@ -15,7 +15,7 @@ use Rattle.public_result.proofs.Zero.{alike}
 -- best.
 pub prices_serve_all : PricesServeAll
 prices_serve_all aim i ks js p sound proved matched best =
-    let one : IsUnbeaten (order aim) i (pairs i ks) = best_from_prices (aim_sums aim) i (pairs i ks) (price p.students.items) (price p.projects.items) (price p.supervisors.items) sound (as_rows (order aim) i ks p proved) in
+    let one : IsUnbeaten (order aim) i (pairs i ks) = best_from_prices (aim_sums aim) i (pairs i ks) (price p.students.items) (price p.projects.items) (price p.supervisors.items) (as_rows (order aim) i ks p proved) in
     let other : IsUnbeaten (order aim) i (pairs i js) = unbeaten_from_best aim i (pairs i js) best in
     let same : (k : ℕ) → k < COMPONENTS → weight_row i (pairs i ks) k ≡ weight_row i (pairs i js) k =
     alike aim (weight_row i (pairs i ks)) (weight_row i (pairs i js)) (other.unbeaten (pairs i ks) one.matching) (one.unbeaten (pairs i js) matched.matching) in

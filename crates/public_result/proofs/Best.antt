@@ -100,14 +100,10 @@ module _ (by : RowOrder) (o : IsSumOrder by) (t : Posted) (lists : List (List â„
     equal = equal;
   }
 
-  -- the lists of what is posted are those of a sound instance
-  pub sound_lists : IsSound i
-  sound_lists = sound
-
 -- Step 9 of docs/PROOF.md. Where everybody's check and each student's accept, what is posted is best: as a student's price serves
 -- what the student has by what is assigned.
 pub posted_is_best : PostedIsBest
 posted_is_best aim t lists cleared content =
     let i : Shape = with_lists t lists in
     best_from_unbeaten aim i (assigned t)
-    (best_from_prices (aim_sums aim) i (assigned t) _ _ _ (sound_lists (order aim) (aim_sums aim) t lists cleared content) (prove_best (order aim) (aim_sums aim) t lists cleared content))
+    (best_from_prices (aim_sums aim) i (assigned t) _ _ _ (prove_best (order aim) (aim_sums aim) t lists cleared content))

@@ -22,11 +22,11 @@ returns c =
           let shape : HasShape i.shape w.in-Some.prices.now = subst (λ (p : Option (Bor Matching × Bor Prices)). IfSome p (λ p. HasShape i.shape p.1.now)) w.in-Some.is c.requires.shape in
           let numbers : HasNumbers w.in-Some.prices.now = record { students = w.in_ok-write_proof.ensures.students; projects = w.in_ok-write_proof.ensures.projects; supervisors = w.in_ok-write_proof.ensures.supervisors } in
           let text = ap string_bytes w.out-is ∙ joined i aim w.in-Some.matching.now.places.items w.in-Some.prices.now (string_bytes c.write_instance.new.out) (string_bytes w.write_proof.new.out) written_so (w.in_ok-write_proof.ensures.text aim) ∙ ap shown (sym w.in-Some.is) in
-          let parts : IsRoundParts (written i aim c.args.proof) = subst (λ (p : Option (Bor Matching × Bor Prices)). IsRoundParts (written i aim p)) (sym w.in-Some.is) (proved_whole i aim w.in-Some.matching.now.places.items w.in-Some.prices.now c.fit.ensures form rise matched.places shape numbers) in
+          let parts : IsRoundParts (written i aim c.args.proof) = subst (λ (p : Option (Bor Matching × Bor Prices)). IsRoundParts (written i aim p)) (sym w.in-Some.is) (proved_whole i aim w.in-Some.matching.now.places.items w.in-Some.prices.now c.in_ok-write_instance.ensures.fit form rise matched.places shape numbers) in
           record { text = text; small = subst (λ (out : List ℕ). length out ≤ MAX_BYTES) (sym text) (text_small (written i aim c.args.proof) parts); parts = parts }
       | in_default w ↦
           let shown = λ (p : Option (Bor Matching × Bor Prices)). round_text (written i aim p) in
           let text = ap string_bytes w.out-is ∙ written_so ∙ instance_alone aim (instance_of i) (map (λ e. None) i.shape.students) (no_pairs (students_named i.project_codes i.student_codes i.shape.students) i.shape.students) ∙ ap shown (sym w.in_default.is) in
-          let parts : IsRoundParts (written i aim c.args.proof) = subst (λ (p : Option (Bor Matching × Bor Prices)). IsRoundParts (written i aim p)) (sym w.in_default.is) (alone_whole i aim c.fit.ensures form rise) in
+          let parts : IsRoundParts (written i aim c.args.proof) = subst (λ (p : Option (Bor Matching × Bor Prices)). IsRoundParts (written i aim p)) (sym w.in_default.is) (alone_whole i aim c.in_ok-write_instance.ensures.fit form rise) in
           record { text = text; small = subst (λ (out : List ℕ). length out ≤ MAX_BYTES) (sym text) (text_small (written i aim c.args.proof) parts); parts = parts }
     ]
