@@ -21,7 +21,7 @@ module _ {S : Type 0} (ghosts : Ghosts S) where
   rests Done first last it clean =
       let early = it.clean clean in
       let up = it.opened.opening.is_open early in
-      record { is_open = up; sound = (it.live up).0; stands = it.opened.tables early up; fit = it.fit; alone = it.opened.opening.alone early }
+      record { is_open = up; sound = (it.live up).0; stands = it.opened.in_order.stands early up; fit = it.fit; alone = it.opened.opening.alone early }
 
   module _ (ports : ℕ → PortState) (reaches : AskReaches ghosts) (stay : AnswersStay ghosts) where
     taken_stays : (done : Task) (desk next : DeskState S) → IsAtRest ghosts desk → TakesTo ghosts ports done desk next → (office : State) → IsOpenedAfter ghosts next office

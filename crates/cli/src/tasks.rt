@@ -116,15 +116,10 @@ pub(crate) fn perform<S: Alter, P: Ports, O: Sink, E: Sink>(
     ensures cut { CutsOff S.Store (P.state ports) outputs.old outputs.new task desk.old desk.new }
 {
     match task {
-        Task::Ask(asked) => {
-            let answer = desk.ask(asked);
-            // What a desk keeps between requests is a part of the step.
-            desk.office();
-            match answer {
-                Ok(reply) => outputs.print_reply(&reply),
-                Err(refusal) => outputs.refuse(refusal),
-            }
-        }
+        Task::Ask(asked) => match desk.ask(asked) {
+            Ok(reply) => outputs.print_reply(&reply),
+            Err(refusal) => outputs.refuse(refusal),
+        },
         Task::Serve(serving) => {
             let bound = ports.bind(serving.port);
             serve_bound(alloc, desk, bound, serving, outputs)

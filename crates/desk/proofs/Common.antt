@@ -1,5 +1,5 @@
 -- The names that most proofs here cite, passed on from one place. Declares nothing.
-pub use Rattle.desk.specs.Inside.Sessions.{MayMeet}
+pub use Rattle.desk.specs.Inside.Sessions.{MayMeet, effect_after}
 pub use Rattle.desk.specs.Keeping.{Begins, CarriesOut, Keeps, StandsForOne}
 pub use Rattle.desk.specs.Sessions.{AnswersAtOnce, GoesOn, MirrorsRound, RunsOn, effect_of, list_effect, plain_effect}
 pub use Rattle.desk.specs.layers.Layers.{import_as_read, layers}

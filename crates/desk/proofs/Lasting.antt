@@ -1,5 +1,5 @@
 -- A desk that is ready stays ready, request after request.
-use Rattle.std.proofs.Common.{◌≡◌, ◌∙◌, ◌*◌, ◌+◌, ◌≤◌, ◌<◌, ◌^◌, ℕ, List, [], ap, arith, inl, inr, false, refl, subst, suc, sym, zero}
+use Rattle.std.proofs.Common.{◌≡◌, ◌∙◌, ◌*◌, ◌+◌, ◌≤◌, ◌^◌, ℕ, List, [], ap, arith, inl, inr, refl, subst, suc, sym, zero}
 use Rattle.std.proofs.lemmas.Bool.{cases_Bool}
 use Rattle.sqlite.specs.Held.{state}
 use Rattle.sqlite.specs.State.{HasCleanDisk, IsLive}
@@ -60,7 +60,7 @@ module _ {S : Type 0} (ghosts : Ghosts S) where
                 (λ table place has. absurd (subst (λ (all : List AnyTable). Has all (table_at table place)) none has)),
           );
         };
-        stands = over.opened.tables;
+        stands = over.opened.in_order.stands;
         live = over.live;
       }
 
@@ -87,7 +87,7 @@ module _ {S : Type 0} (ghosts : Ghosts S) where
           unlimited = opening.crash.limit ∙ over.unlimited;
           ready = λ clean up. (subst IsOurs (sym (same clean)) here.ours, subst (HasRoom (count * 2 ^ 20)) (sym (same clean)) here.room);
         };
-        stands = over.opened.tables;
+        stands = over.opened.in_order.stands;
         live = over.live;
       }
 

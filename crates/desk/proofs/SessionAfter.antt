@@ -1,6 +1,6 @@
 -- What a request that was carried out makes of the session.
-use Rattle.std.proofs.Common.{◌≡◌, ℕ, List, Bool, true, false, Option, Some, None, IfSome, refl, sym, subst}
-use Rattle.desk.proofs.Common.{if◌then◌else◌, State, last_round, has_list, IsFit, Plain, PutSupervisor, PutProject, PutStudent, OpenRound, PutList, DropList, ReopenRound, Reply, Request, is_read, changes_nothing, plain_refusal, refusal_of, after_plain, Makes, SessionState, layers, MayJoin, plain_effect, effect_of, MirrorsRound, MayMeet}
+use Rattle.std.proofs.Common.{◌≡◌, ℕ, List, Bool, true, false, Option, Some, None, Result, Ok, Err, IfSome, refl, sym, subst}
+use Rattle.desk.proofs.Common.{Refusal, Step, effect_after, if◌then◌else◌, State, last_round, has_list, IsFit, Plain, PutSupervisor, PutProject, PutStudent, OpenRound, PutList, DropList, ReopenRound, Reply, Request, is_read, changes_nothing, plain_refusal, refusal_of, after_plain, Makes, SessionState, layers, MayJoin, plain_effect, effect_of, MirrorsRound, MayMeet}
 use Rattle.office_model.specs.declared.request.Request.TheVariants as request
 use Rattle.desk.specs.declared.sessions.SessionEffect.TheVariants.{Keep, Extend, End}
 
@@ -41,3 +41,9 @@ meets o n request.Preview reply kept fit allowed change made mirrors = absurd (c
 meets o n request.RoundText reply kept fit allowed change made mirrors = absurd (cc)
 meets o n (request.Report kind round) reply kept fit allowed change made mirrors = absurd (cc)
 meets o n (request.Import id kind bytes) reply kept fit allowed change made mirrors = subst (λ (b : Bool). MayMeet (if b then Keep else End) n kept) (sym change) tt
+
+-- so it may after the change was asked, whatever the answer
+pub meets_after : (o n : State) (q : Request) (a : Result Reply Refusal) (kept : Option SessionState) → IsFit o → refusal_of o q ≡ None → changes_nothing o q ≡ false → Step layers o q a n → MirrorsRound o kept
+    → MayMeet (effect_after a (effect_of o q)) n kept
+meets_after o n q (Ok reply) kept fit allowed change step mirrors = meets o n q reply kept fit allowed change step.1 mirrors
+meets_after o n q (Err refusal) kept fit allowed change step mirrors = subst (λ (x : State). MirrorsRound x kept) (sym step.0) mirrors

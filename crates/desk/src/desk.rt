@@ -1,10 +1,9 @@
 //! The desk.
 
 ghost use Rattle.std.specs.Prelude.{ℕ, ◌≡◌, ◌≢◌, ◌⊎◌, Err, IfOk, IfErr, IsOk, IsErr, IfSome, IsTrue, is_some, OnErr, None, option_map, false, true};
-ghost use Rattle.sqlite.specs.State.{HasCleanDisk, IsLive, Survives};
+ghost use Rattle.sqlite.specs.State.{HasCleanDisk, Survives};
 ghost use Rattle.sqlite.specs.Held.{state};
 ghost use Rattle.sql_tables.specs.Steps.{MayRecoverTo};
-ghost use Rattle.office_model.specs.Fit.{IsFit};
 ghost use Rattle.office_model.specs.Reads.{changes_nothing};
 ghost use Rattle.office_model.specs.Refusing.{refusal_of};
 ghost use Rattle.office_model.specs.Run.{Step, Run, refusal};
@@ -13,13 +12,13 @@ ghost use Rattle.store.specs.Opening.{IsLeftUnopened};
 ghost use Rattle.store.specs.Reading.{AreListed};
 ghost use Rattle.store.specs.Tables.{HasNone};
 ghost use Rattle.desk.specs.Keeping.{Begins, Keeps, StandsForOne, needs_no_table};
-ghost use Rattle.desk.specs.DeskState.{IsOpened};
+ghost use Rattle.desk.specs.DeskState.{IsInOrder, IsOpened};
 ghost use Rattle.desk.specs.Saved.{IsSaved};
 ghost use Rattle.desk.specs.Sessions.{AnswersAtOnce, GoesOn, RunsOn, MirrorsRound};
 
 use crate::layers;
 use crate::persistent::{PersistentOffice, refusal_of_fault};
-use crate::sessions::{effect_of, next_session};
+use crate::sessions::{effect_after, effect_of, next_session};
 use office::Office;
 use office_model::{Plain, Refusal, Reply, Request};
 use solver::Session;
@@ -38,8 +37,7 @@ pub struct Desk<S: Alter> {
 
 impl<S: Alter> Model for Desk<S> {
     ghost use Rattle.desk.specs.DeskState.{DeskState};
-    ghost use Rattle.desk.specs.Inside.DeskState.{kept_code};
-    ghost use Rattle.desk.specs.Sessions.{MirrorsRound};
+    ghost use Rattle.desk.specs.Inside.DeskState.{kept_code, IsKept};
 
     ghost Value = { DeskState S };
 
@@ -47,7 +45,7 @@ impl<S: Alter> Model for Desk<S> {
 
     ghost view = { λ d. let persistent = d.persistent in record { office = persistent.office; store = persistent.store; session = d.session } };
 
-    ghost invariant = { λ d. let persistent = d.persistent in MirrorsRound persistent.office d.session };
+    ghost invariant = { λ d. let persistent = d.persistent in IsKept S.Store (record { office = persistent.office; store = persistent.store; session = d.session }) };
 }
 
 /// Whether a request changes nothing of an office.
@@ -81,26 +79,29 @@ impl<S: Alter> Desk<S> {
         ensures unlisted { connection.in_transaction ≡ false → (HasNone (state S.Store connection).now.schema → ⊥) → (AreListed (state S.Store connection).now.schema → ⊥) → IsErr result × IfErr result (λ e. e.0 ≡ Refusal.Damaged) }
     {
         match Store::open(alloc, connection) {
-            Ok((store, office)) => Ok(Desk {
-                alloc,
-                persistent: PersistentOffice {
+            Ok((store, office)) => {
+                let persistent = PersistentOffice {
                     alloc,
                     office,
                     store,
-                },
-                session: None,
-            }),
+                };
+                // Asked for its clauses alone: they are so of every desk.
+                persistent.office();
+                Ok(Desk {
+                    alloc,
+                    persistent,
+                    session: None,
+                })
+            }
             Err((fault, connection)) => Err((refusal_of_fault(fault), connection)),
         }
     }
 
-    /// Lends the office. It is fit, the tables of every desk stand for it, and a session that is cached mirrors its open round.
+    /// Lends the office. Every desk is in order, and a session that is cached mirrors its open round.
     pub fn office(&self) -> &Office
         ensures same { result.now ≡ self.now.office }
-        ensures tables { Keeps (state S.Store self.now.store) self.now.office }
+        ensures in_order { IsInOrder S.Store self.now }
         ensures ended { self.now.store.in_transaction ≡ false }
-        ensures fit { IsFit self.now.office }
-        ensures live { IsLive (state S.Store self.now.store) }
         ensures mirrors { MirrorsRound self.now.office self.now.session }
     {
         self.persistent.office()
@@ -152,7 +153,6 @@ impl<S: Alter> Desk<S> {
         ensures crash { IfOk result (λ answers. Survives (state S.Store self.old.store) (state S.Store self.new.store) (MayRecoverTo (λ _. StandsForOne (Begins self.old.office requests.items answers.items)) (state S.Store self.old.store))) }
         ensures stays_shut { HasCleanDisk (state S.Store self.new.store) → IsTrue (state S.Store self.new.store).is_open → IsTrue (state S.Store self.old.store).is_open }
     {
-        self.office();
         let mut answers = Vec::with_capacity(self.alloc, requests.len())?;
         for request in requests {
             let answer = self.ask(request);
@@ -165,7 +165,7 @@ impl<S: Alter> Desk<S> {
     /// `Memory` may take the place of any answer that allocates, and `Storage`, a database error, that of a change alone.
     pub fn ask(&mut self, request: Request) -> Result<Reply, Refusal>
         ensures step { Step layers self.old.office request result self.new.office }
-        ensures tables { Keeps (state S.Store self.new.store) self.new.office }
+        ensures in_order { IsInOrder S.Store self.new }
         ensures quiet { needs_no_table self.old.office request ≡ true → self.new.store ≡ self.old.store }
 
         // What a crash leaves, that an answered change has its tables alone over an open connection, and why the storage has failed.
@@ -179,10 +179,10 @@ impl<S: Alter> Desk<S> {
         // first list joins the one that is cached or drops it, and every other change leaves none.
         ensures session { GoesOn self.old.office request result self.old.session self.new.session }
     {
-        if let Some(refusal) = self.persistent.office.refusal_of(&request) {
+        if let Some(refusal) = self.office().refusal_of(&request) {
             return Err(refusal);
         }
-        if changes_nothing(&self.persistent.office, &request) {
+        if changes_nothing(self.office(), &request) {
             self.read(request)
         } else {
             self.change(request)
@@ -195,7 +195,7 @@ impl<S: Alter> Desk<S> {
         requires allowed { refusal_of self.old.office request ≡ None }
         ensures step { Step layers self.old.office request result self.new.office }
         ensures store { self.new.store ≡ self.old.store }
-        ensures tables { Keeps (state S.Store self.new.store) self.new.office }
+        ensures in_order { IsInOrder S.Store self.new }
         ensures storage { result ≢ Err Refusal.Storage }
         ensures at_once { AnswersAtOnce self.old.office self.old.session request result }
         ensures session { GoesOn self.old.office request result self.old.session self.new.session }
@@ -219,7 +219,7 @@ impl<S: Alter> Desk<S> {
         requires allowed { refusal_of self.old.office Request.Preview ≡ None }
         ensures step { Step layers self.old.office Request.Preview result self.new.office }
         ensures store { self.new.store ≡ self.old.store }
-        ensures tables { Keeps (state S.Store self.new.store) self.new.office }
+        ensures in_order { IsInOrder S.Store self.new }
         ensures storage { result ≢ Err Refusal.Storage }
         ensures session { GoesOn self.old.office Request.Preview result self.old.session self.new.session }
         ensures kept { IsTrue (is_some self.old.session) → IsOk result }
@@ -239,15 +239,16 @@ impl<S: Alter> Desk<S> {
         requires change { changes_nothing self.old.office request ≡ false }
         requires allowed { refusal_of self.old.office request ≡ None }
         ensures step { Step layers self.old.office request result self.new.office }
-        ensures tables { Keeps (state S.Store self.new.store) self.new.office }
+        ensures in_order { IsInOrder S.Store self.new }
         ensures quiet { IfSome (refusal layers self.old.office request) (λ _. self.new.store ≡ self.old.store) }
         ensures saved { IsSaved self.old.office request result (state S.Store self.old.store) (state S.Store self.new.store) }
         ensures session { GoesOn self.old.office request result self.old.session self.new.session }
     {
         let effect = effect_of(self.alloc, self.office(), &request)?;
-        let reply = self.persistent.change(request)?;
+        let answer = self.persistent.change(request);
+        let effect = effect_after(effect, &answer);
         let kept = self.session.take();
-        self.session = next_session(self.alloc, &self.persistent.office, kept, effect);
-        Ok(reply)
+        self.session = next_session(self.alloc, self.persistent.office(), kept, effect);
+        answer
     }
 }

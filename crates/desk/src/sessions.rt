@@ -3,11 +3,11 @@
 ghost use Rattle.std.specs.Prelude.{◌≡◌, IfOk, IfSome};
 ghost use Rattle.desk.specs.layers.SessionRounds.{MayJoin};
 ghost use Rattle.desk.specs.Sessions.{list_effect, plain_effect, effect_of, Goes, IsJoined, MirrorsRound};
-ghost use Rattle.desk.specs.Inside.Sessions.{MayMeet};
+ghost use Rattle.desk.specs.Inside.Sessions.{MayMeet, effect_after};
 
 use crate::layers;
 use office::Office;
-use office_model::{Plain, Request, Text};
+use office_model::{Plain, Refusal, Reply, Request, Text};
 use solver::Session;
 use std::alloc::{AllocError, Global};
 
@@ -70,6 +70,16 @@ pub fn effect_of(
     }
 }
 
+/// Returns what a request that got this answer makes of the session: a refused one leaves it.
+pub fn effect_after(effect: SessionEffect, answer: &Result<Reply, Refusal>) -> SessionEffect
+    ensures { result ≡ effect_after answer.now effect }
+{
+    match answer {
+        Ok(_) => effect,
+        Err(_) => SessionEffect::Keep,
+    }
+}
+
 /// Returns the session with one student more; none where an allocation failed.
 fn joined(alloc: Global, office: &Office, kept: Option<Session>, student: &str) -> Option<Session>
     requires joins { IfSome kept (λ s. MayJoin office.now s student.now) }
@@ -85,7 +95,7 @@ fn joined(alloc: Global, office: &Office, kept: Option<Session>, student: &str) 
     }
 }
 
-/// Returns the session after a change that was saved. Running out of memory drops it.
+/// Returns the session after a change. Running out of memory drops it.
 pub fn next_session(
     alloc: Global,
     office: &Office,

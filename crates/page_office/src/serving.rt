@@ -37,7 +37,6 @@ fn serve_at<S: Alter + Drop>(
 {
     match Desk::open(alloc, connection) {
         Ok(mut desk) => {
-            desk.office();
             let mut reader = Watched::new(stream);
             let mut writer = Watched::new(Vec::new(alloc));
             let came = serve_stream(alloc, &mut desk, &mut reader, &mut writer);

@@ -13,13 +13,12 @@ use Rattle.office_model.specs.declared.request.Request.TheVariants as request
 use Rattle.office_model.specs.Refusing.{refusal_of}
 use Rattle.office_model.specs.Run.{Makes, Step, refusal}
 use Rattle.desk.specs.layers.Layers.{layers}
-use Rattle.desk.specs.Keeping.{Keeps, repeated_rows}
-use Rattle.desk.specs.DeskState.{DeskState}
+use Rattle.desk.specs.Keeping.{repeated_rows}
+use Rattle.desk.specs.DeskState.{DeskState, IsInOrder}
 use Rattle.desk.specs.Sessions.{AnswersAtOnce, GoesOn}
 use Rattle.desk.specs.Saved.{IsSaved}
 use Rattle.sqlite.specs.Held.{state}
-use Rattle.sqlite.specs.State.{State as Seen, IsLive}
-use Rattle.office_model.specs.Fit.{IsFit}
+use Rattle.sqlite.specs.State.{State as Seen}
 use Rattle.office_model.specs.State.{State}
 use Rattle.http_stream.specs.Run.{MessageText}
 use Rattle.http_api.specs.Texts.{IsRead, refusal_text, text_of}
@@ -86,10 +85,10 @@ without_text office q reply old new is = record {
 module _ {S : Type 0} (ghosts : Ghosts S) where
   -- what a desk promises of a request is what the request gets
   pub gets_at : (o n : DeskState S) (q : Request) (a : Result Reply Refusal) → Step layers o.office q a n.office → AnswersAtOnce o.office o.session q a → GoesOn o.office q a o.session n.session
-      → IsSaved o.office q a (state ghosts o.store) (state ghosts n.store) → Keeps (state ghosts n.store) n.office → IsLive (state ghosts n.store) → IsFit n.office → GetsAt ghosts o q a n
-  gets_at o n q a step at_once goes saved stands live fit = record {
+      → IsSaved o.office q a (state ghosts o.store) (state ghosts n.store) → IsInOrder ghosts n → GetsAt ghosts o q a n
+  gets_at o n q a step at_once goes saved after = record {
     gets = record { step = step; at_once = at_once; goes = goes };
-    asking = record { step = step; saved = saved; stands = stands; live = live; fit = fit };
+    asking = record { step = step; saved = saved; stands = after.stands; live = after.live; fit = after.fit };
   }
 
   -- a request that gets an answer is answered by its text, or as one that runs out of memory
@@ -99,7 +98,7 @@ module _ {S : Type 0} (ghosts : Ghosts S) where
   answered_from o n bytes q (Ok reply) at (inr earlier) =
       let gets = text_runs_out (at_desk o) (at_desk n) q reply earlier.0 at.gets.step.0 at.gets.step.1 at.gets.goes in
       let saved = without_text o.office q reply (state ghosts o.store) (state ghosts n.store) at.asking.saved in
-      (Err Memory, gets_at o n q (Err Memory) gets.step gets.at_once gets.goes saved at.asking.stands at.asking.live at.asking.fit, earlier.1)
+      (Err Memory, gets_at o n q (Err Memory) gets.step gets.at_once gets.goes saved (record { stands = at.asking.stands; fit = at.asking.fit; live = at.asking.live }), earlier.1)
   answered_from o n bytes q (Err refused) at (inr earlier) = absurd earlier.0
 
   -- a desk with its tables answers as what is seen of it, and as its office

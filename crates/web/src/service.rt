@@ -38,8 +38,6 @@ impl<S: Alter> Handler<Desk<S>> for OfficeHandler {
             Err(refusal) => Answer::Short(refusal_answer(refusal)),
             Ok(request) => {
                 let answer = desk.ask(request);
-                // What a desk keeps between requests is a part of the step.
-                desk.office();
                 answer_of(self.alloc, answer)
             }
         }

@@ -9,20 +9,20 @@ use Rattle.cli.proofs.tasks.perform.Goals as goal
 pub returns-in-Ok-clause-printed : goal.returns-in-Ok-clause-printed
 returns-in-Ok-clause-printed g c =
     let asked = c.in-Ask.asked in
-    let gets = gets_at g.S.Store c.args.desk.now c.ask-answer.new.self asked c.ask-answer.result c.ask-answer.ensures.step c.ask-answer.ensures.at_once c.ask-answer.ensures.session c.ask-answer.ensures.saved c.office.ensures.tables c.office.ensures.live c.office.ensures.fit in
-    rw c.in-Ask.is (prints_more (λ o. o ≡ prints (printed_reply c.in-Ok.reply)) (ComesFrom g.S.Store (g.P.Ports.state c.args.ports) (task.Ask asked) c.args.desk.now c.ask-answer.new.self) (λ o is. (c.ask-answer.result, gets, is ∙ ap of_answer (sym c.in-Ok.is))) _ _ _ (search rules depth 2))
+    let gets = gets_at g.S.Store c.args.desk.now c.ask.new.self asked c.ask.result c.ask.ensures.step c.ask.ensures.at_once c.ask.ensures.session c.ask.ensures.saved c.ask.ensures.in_order in
+    rw c.in-Ask.is (prints_more (λ o. o ≡ prints (printed_reply c.in-Ok.reply)) (ComesFrom g.S.Store (g.P.Ports.state c.args.ports) (task.Ask asked) c.args.desk.now c.ask.new.self) (λ o is. (c.ask.result, gets, is ∙ ap of_answer (sym c.in-Ok.is))) _ _ _ (search rules depth 2))
 
 pub returns-in-Ask-clause-printed : goal.returns-in-Ask-clause-printed
 returns-in-Ask-clause-printed g c =
     let asked = c.in-Ask.asked in
-    let gets = gets_at g.S.Store c.args.desk.now c.ask-answer.new.self asked c.ask-answer.result c.ask-answer.ensures.step c.ask-answer.ensures.at_once c.ask-answer.ensures.session c.ask-answer.ensures.saved c.office.ensures.tables c.office.ensures.live c.office.ensures.fit in
-    rw c.in-Ask.is (prints_more _ (ComesFrom g.S.Store (g.P.Ports.state c.args.ports) (task.Ask asked) c.args.desk.now c.ask-answer.new.self) (λ o is. (c.ask-answer.result, gets, is ∙ ap of_answer (sym c.in-Err.is))) _ _ _ c.refuse.ensures)
+    let gets = gets_at g.S.Store c.args.desk.now c.ask.new.self asked c.ask.result c.ask.ensures.step c.ask.ensures.at_once c.ask.ensures.session c.ask.ensures.saved c.ask.ensures.in_order in
+    rw c.in-Ask.is (prints_more _ (ComesFrom g.S.Store (g.P.Ports.state c.args.ports) (task.Ask asked) c.args.desk.now c.ask.new.self) (λ o is. (c.ask.result, gets, is ∙ ap of_answer (sym c.in-Err.is))) _ _ _ c.refuse.ensures)
 
 pub returns-in-Ok-clause-taken : goal.returns-in-Ok-clause-taken
-returns-in-Ok-clause-taken g c = rw c.in-Ask.is (c.ask-answer.result, gets_at g.S.Store c.args.desk.now c.ask-answer.new.self c.in-Ask.asked c.ask-answer.result c.ask-answer.ensures.step c.ask-answer.ensures.at_once c.ask-answer.ensures.session c.ask-answer.ensures.saved c.office.ensures.tables c.office.ensures.live c.office.ensures.fit)
+returns-in-Ok-clause-taken g c = rw c.in-Ask.is (c.ask.result, gets_at g.S.Store c.args.desk.now c.ask.new.self c.in-Ask.asked c.ask.result c.ask.ensures.step c.ask.ensures.at_once c.ask.ensures.session c.ask.ensures.saved c.ask.ensures.in_order)
 
 pub returns-in-Ask-clause-taken : goal.returns-in-Ask-clause-taken
-returns-in-Ask-clause-taken g c = rw c.in-Ask.is (c.ask-answer.result, gets_at g.S.Store c.args.desk.now c.ask-answer.new.self c.in-Ask.asked c.ask-answer.result c.ask-answer.ensures.step c.ask-answer.ensures.at_once c.ask-answer.ensures.session c.ask-answer.ensures.saved c.office.ensures.tables c.office.ensures.live c.office.ensures.fit)
+returns-in-Ask-clause-taken g c = rw c.in-Ask.is (c.ask.result, gets_at g.S.Store c.args.desk.now c.ask.new.self c.in-Ask.asked c.ask.result c.ask.ensures.step c.ask.ensures.at_once c.ask.ensures.session c.ask.ensures.saved c.ask.ensures.in_order)
 
 module _ {A E D : Type 0} (step : D → MessageText → List ℕ → D → Type 0) (at : PortState) (peers : A → ℕ → Peer) (before after : D) where
   -- whether the port was bound or not

@@ -10,9 +10,7 @@ returns-in-Some-clause-session g c = search rules depth 3
 
 -- the refusal that was found is the one that is due
 found : (g : given.Over) (c : Joined-request g) → refusal_of c.args.self.now.office c.args.request ≡ Some c.in-Some.refusal
-found g c =
-    let same = ap (λ d. let persistent = d.persistent in persistent.office) c.self-inside.view_is ∙ ap (λ k. k.office) c.self.view_is in
-    sym (c.refusal_of.ensures.refusal ∙ ap (λ o. refusal_of o c.args.request) same) ∙ c.in-Some.is
+found g c = sym (c.refusal_of.ensures.refusal ∙ ap (λ o. refusal_of o c.args.request) c.office.ensures.same) ∙ c.in-Some.is
 
 pub returns-in-Some-clause-step : goal.returns-in-Some-clause-step
 returns-in-Some-clause-step g c = (refl, inl (found g c))

@@ -4,8 +4,8 @@ use Rattle.store.specs.declared.fault.StoreFault.TheVariants.{Storage}
 use Rattle.desk.proofs.SavedRows.{opened_stands, was_storage}
 use Rattle.desk.proofs.desk.Desk.open.Goals as goal
 
-pub invariant_of-result : goal.invariant_of-result
-invariant_of-result g c = record {
+pub invariant_of-persistent : goal.invariant_of-persistent
+invariant_of-persistent g c = record {
   stands = λ clean is_open. opened_stands _ _ c.in-Ok.office (c.in-Ok.ensures.opened.office clean);
   ended = c.in-Ok.ensures.opened.ended;
 }
@@ -13,7 +13,7 @@ invariant_of-result g c = record {
 pub returns-in-Ok-clause-opened : goal.returns-in-Ok-clause-opened
 returns-in-Ok-clause-opened g c = record {
   opening = c.in-Ok.ensures.opened;
-  tables = λ clean is_open. opened_stands _ _ c.in-Ok.office (c.in-Ok.ensures.opened.office clean);
+  in_order = record { stands = c.office.ensures.tables; fit = c.office.ensures.fit; live = c.office.ensures.live };
   no_session = refl;
 }
 

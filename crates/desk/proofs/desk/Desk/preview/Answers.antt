@@ -1,9 +1,8 @@
 use Rattle.std.proofs.Common.{sym, ap, subst, ◌∙◌, rules}
 use Rattle.office_model.specs.declared.request.Request.TheVariants as request
-use Rattle.desk.specs.DeskState.{DeskState}
-use Rattle.desk.specs.Keeping.{Keeps}
+use Rattle.desk.specs.DeskState.{IsInOrder}
 use Rattle.desk.specs.Sessions.{MirrorsRound}
-use Rattle.desk.proofs.Common.{Makes, layers, State, IsSessionOf, state}
+use Rattle.desk.proofs.Common.{Makes, layers, State, IsSessionOf}
 use Rattle.desk.proofs.desk.Desk.preview.Goals as goal
 
 pub returns-clause-step : goal.returns-clause-step
@@ -20,5 +19,7 @@ returns-in-Some-clause-step g c =
     let o : State = c.args.self.now.office in
     (c.requires.allowed, c.read_preview.ensures.made o (subst (MirrorsRound o) (sym (ap (λ k. k.session) c.self.view_is) ∙ c.in-Some.is) c.office-office.ensures.mirrors))
 
-pub returns-clause-tables : goal.returns-clause-tables
-returns-clause-tables g c = subst (λ (d : DeskState g.row.S.Denot). Keeps (state g.S.Store d.store) d.office) (sym c.self.view_is) c.office-office.ensures.tables
+pub returns-clause-in_order : goal.returns-clause-in_order
+returns-clause-in_order g c =
+    let was = subst (IsInOrder g.S.Store) (sym c.self.view_is) c.office-office.ensures.in_order in
+    record { stands = was.stands; fit = was.fit; live = was.live }

@@ -37,7 +37,7 @@ loop-request-preserved g c =
           c.loop-request.answers.items c.push.new.self.items next added l.rest c.ask-answer.ensures.step;
       goes = one_more_on c.args.self.now.office c.args.self.now.session c.loop-request.self.office c.loop-request.self.session c.ask-answer.new.self.office c.ask-answer.new.self.session c.args.requests.items
           c.loop-request.request-iterator.rest.items c.next.new.self.rest.items c.in-Some.request c.ask-answer.result c.loop-request.answers.items c.push.new.self.items next added l.goes c.ask-answer.ensures.step c.ask-answer.ensures.session c.ask-answer.ensures.at_once;
-      tables = c.ask-answer.ensures.tables;
+      tables = c.ask-answer.ensures.in_order.stands;
       crash = crash_more c.args.self.now.office c.loop-request.self.office c.ask-answer.new.self.office c.args.requests.items c.loop-request.request-iterator.rest.items c.next.new.self.rest.items c.in-Some.request c.ask-answer.result
           c.loop-request.answers.items c.push.new.self.items next added l.rest (state g.S.Store c.args.self.now.store) (state g.S.Store c.loop-request.self.store) (state g.S.Store c.ask-answer.new.self.store) l.shut l.crash c.ask-answer.ensures.saved.crash;
       shut = still_shut (state g.S.Store c.args.self.now.store) (state g.S.Store c.loop-request.self.store) (state g.S.Store c.ask-answer.new.self.store) _ c.ask-answer.ensures.saved.crash l.shut c.ask-answer.ensures.saved.stays_shut;

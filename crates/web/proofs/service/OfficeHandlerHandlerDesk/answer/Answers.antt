@@ -15,7 +15,7 @@ returns-in-Ok g c = record {
     is_read = c.in-Ok.ensures;
     answers = answered_from g.S.Store c.args.desk.now c.ask-answer.new.self (answer_bytes c.answer_of.result) c.in-Ok.request c.ask-answer.result
         (gets_at g.S.Store c.args.desk.now c.ask-answer.new.self c.in-Ok.request c.ask-answer.result c.ask-answer.ensures.step c.ask-answer.ensures.at_once c.ask-answer.ensures.session c.ask-answer.ensures.saved
-        c.office.ensures.tables c.office.ensures.live c.office.ensures.fit)
+        c.ask-answer.ensures.in_order)
         c.answer_of.ensures;
     clean = λ clean. omega (arith, clean, c.ask-answer.ensures.saved.crash.clean);
   };
