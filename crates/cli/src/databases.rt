@@ -1,21 +1,19 @@
 //! What a line does at the office of a database, which is opened for it and closed after it.
 
 ghost use Rattle.std.specs.Prelude.{◌≡◌};
-ghost use Rattle.sqlite.specs.Files.{file_state, over_files};
 ghost use Rattle.sqlite.specs.Held.{state};
 ghost use Rattle.store.specs.Tables.{HasNone};
 ghost use Rattle.cli.specs.Outputs.{CanFail};
 ghost use Rattle.cli.specs.Outcomes.{Prints};
-ghost use Rattle.cli.specs.Databases.{CutsOver, DoesOver, PrintsOver, LeftBy, IsClosing, IsNamedFirst};
+ghost use Rattle.cli.specs.Databases.{CutsOver, DoesOver, DoneAt, PrintsOver, LeftBy, IsNamedFirst};
 
-use crate::opening::{Closing, close_file};
+use crate::opening::{Closing, close_file, open_file};
 use crate::outputs::Outputs;
 use crate::status::Status;
 use crate::tasks::{Task, perform};
 use desk::Desk;
-use host::Ports;
-use sqlite::{Alter, Connection, FileStore};
-use sqlite_disk::Disk;
+use host::{Ports, World};
+use sqlite::{Alter, Connection};
 use std::alloc::Global;
 use store::has_none;
 use web::Sink;
@@ -40,7 +38,6 @@ fn open_and_perform<S: Alter + Drop, P: Ports, O: Sink, E: Sink>(
 {
     match Desk::open(alloc, connection) {
         Ok(mut desk) => {
-            desk.office();
             let status = perform(alloc, ports, &mut desk, task, outputs);
             (status, desk.into_connection())
         }
@@ -77,23 +74,31 @@ fn announce_and_perform<S: Alter + Drop, P: Ports, O: Sink, E: Sink>(
     open_and_perform(alloc, ports, connection, task, outputs)
 }
 
-/// Does the same at the office of a database file, which is closed then: its log is copied into it.
-pub(crate) fn perform_and_close<D: Disk + Drop, P: Ports, O: Sink, E: Sink>(
+/// Does a task at the office of the database file with this name, or prints the refusal of the opening.
+/// Prints first that the database is new, where it is. Closes the file then, and gives back what came of it: its log is copied into it.
+///
+/// A closing that fails changes neither what was printed nor the status: what was changed is in the log next to the file, where
+/// the next opening finds it.
+pub(crate) fn perform_on_file<W: World, O: Sink, E: Sink>(
     alloc: Global,
-    ports: P,
-    name: &str,
-    connection: Connection<FileStore<D>>,
+    world: W,
+    database: &str,
     task: Task,
     outputs: &mut Outputs<O, E>,
-) -> (Status, Closing<D>)
+) -> (Status, Option<Closing<W::File>>)
     requires { CanFail outputs.old }
-
-    // One connection shows what was printed and what is left, and it is the one that was closed.
-    ensures { (last : _) × Prints (PrintsOver over_files (P.state ports) name.now task connection last) outputs.old outputs.new result.0
-        × (HasNone (file_state connection).now.schema → IsNamedFirst name.now (last ≡ connection) outputs.old outputs.new)
-        × CutsOver over_files (P.state ports) outputs.old outputs.new task connection last
-        × LeftBy over_files (P.state ports) task result.0 connection last × IsClosing last result.1 }
+    ensures { DoneAt (W.state world) database.now task result.1 outputs.old outputs.new result.0 }
 {
-    let (status, connection) = announce_and_perform(alloc, ports, name, connection, task, outputs);
-    (status, close_file(connection))
+    match open_file(world, database) {
+        Ok((connection, ports)) => {
+            let (status, connection) = announce_and_perform(
+                alloc, ports, database, connection, task, outputs,
+            );
+            (status, Some(close_file(connection)))
+        }
+        Err(refusal) => {
+            drop(task);
+            (outputs.refuse(refusal), None)
+        }
+    }
 }

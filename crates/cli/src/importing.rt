@@ -4,8 +4,8 @@ ghost use Rattle.cli.specs.Outputs.{CanFail};
 ghost use Rattle.cli.specs.Databases.{AskedAt};
 ghost use Rattle.cli.specs.Imports.{IsImportOf, IsImportOfFile};
 
+use crate::databases::perform_on_file;
 use crate::files::read_file;
-use crate::named::perform_on_file;
 use crate::opening::Closing;
 use crate::outputs::Outputs;
 use crate::status::Status;

@@ -15,7 +15,6 @@ mod databases;
 mod files;
 mod importing;
 mod laws;
-mod named;
 mod opening;
 mod outputs;
 mod printing;

@@ -4,8 +4,8 @@ ghost use Rattle.std.specs.Prelude.{map, string_bytes};
 ghost use Rattle.cli.specs.Outputs.{CanFail};
 ghost use Rattle.cli.specs.Databases.{LineAt, WordsAt};
 
+use crate::databases::perform_on_file;
 use crate::importing::{ask_made, import_file};
-use crate::named::perform_on_file;
 use crate::opening::Closing;
 use crate::outputs::Outputs;
 use crate::rounds::{RoundTask, run_on_round_file};
