@@ -1,6 +1,6 @@
 -- What is printed is printed of more, and what one of the two writers took is printed.
 use Rattle.std.proofs.Common.{◌≡◌, ◌≢◌, ◌⊎◌, inl, inr, ℕ, ◌+◌, ◌<◌, List, [], ◌++◌, length, take, Option, Result, Ok, Err, IfOk, IfErr, MatchResult, OnErr, Vec, String, refl, ap, ◌∙◌, sym, subst, arith}
-use Rattle.cli.proofs.Common.{⊤, Appends, Global, Refusal, Found, IsReadOf, Peer, AllServed, SomeServed, Visit, lines_after, MessageText, Trouble, IsUnreadOf, Both, HasPrinted, Output, both_failures, OfDatabase, OnFile, Outcome, Prints, behind, of_round, refused, refusal_line, named_line, new_database, listening, IsUnreadFile, IsServed, ServesBehind, Status, Success, Failure}
+use Rattle.cli.proofs.Common.{⊤, Appends, Global, Refusal, Found, IsReadOf, Peer, AllServed, SomeServed, Visit, lines_after, MessageText, Trouble, IsUnreadOf, Both, HasPrinted, Output, both_failures, OfDatabase, OnFile, Outcome, Prints, behind, of_round, refused, refusal_line, named_line, new_database, listening, IsUnreadFile, IsServed, Status, Success, Failure}
 use Rattle.std.proofs.Math.Seq.{take-add}
 use Rattle.std.proofs.lemmas.List.{drop_at, length-append, take-append-le, take_at}
 use Rattle.http_stream.proofs.Known.{appends_compose, appends_none}
@@ -11,7 +11,7 @@ use Rattle.round_files.specs.declared.rounds.Trouble.TheVariants.{Refused}
 use Rattle.web.specs.Connections.{in_a_row}
 use Rattle.web.specs.declared.TheConstants.{MAX_UNACCEPTED}
 use Rattle.cli.specs.Databases.{IsNamedFirst}
-use Rattle.cli.specs.Inside.Outcomes.{IsCutOff, Serves}
+use Rattle.cli.specs.Inside.Outcomes.{Serves}
 use Rattle.cli.specs.Outputs.{HasCut, IsCut}
 
 -- what the two writers took, and how many of their calls failed
@@ -35,25 +35,11 @@ prints_more A B more old new status (inr failed) = inr failed
 pub at_ok : {A E : Type 0} (P : A → Type 0) (Q : E → Type 0) (came : Result A E) (a : A) → came ≡ Ok a → P a → MatchResult came P Q
 at_ok {A} {E} P Q came a is p = subst (λ (r : Result A E). MatchResult r P Q) (sym is) p
 
--- what holds of the error that came
-pub at_err : {A E : Type 0} (P : A → Type 0) (Q : E → Type 0) (came : Result A E) (e : E) → came ≡ Err e → Q e → MatchResult came P Q
-at_err {A} {E} P Q came e is q = subst (λ (r : Result A E). MatchResult r P Q) (sym is) q
-
--- the same where nothing is said of an error
-pub if_ok : {A E : Type 0} (P : A → Type 0) (came : Result A E) (a : A) → came ≡ Ok a → P a → IfOk came P
-if_ok {A} {E} P came a is p = subst (λ (r : Result A E). IfOk r P) (sym is) p
-
 -- what comes of the value that came is printed
 pub ok_printed : {A E : Type 0} (Of : A → Outcome → Type 0) (At : E → Outcome → Type 0) (came : Result A E) (a : A) → came ≡ Ok a → (old new : Took) (status : Status)
     → PrintsOf (λ o. Of a o) old new status → PrintsOf (λ o. MatchResult came (λ a. Of a o) (λ e. At e o)) old new status
 ok_printed Of At came a is old new status printed =
     prints_more (λ o. Of a o) (λ o. MatchResult came (λ a. Of a o) (λ e. At e o)) (λ o of. at_ok (λ a. Of a o) (λ e. At e o) came a is of) old new status printed
-
--- what comes of the error that came is printed
-pub err_printed : {A E : Type 0} (Of : A → Outcome → Type 0) (At : E → Outcome → Type 0) (came : Result A E) (e : E) → came ≡ Err e → (old new : Took) (status : Status)
-    → PrintsOf (λ o. At e o) old new status → PrintsOf (λ o. MatchResult came (λ a. Of a o) (λ e. At e o)) old new status
-err_printed Of At came e is old new status printed =
-    prints_more (λ o. At e o) (λ o. MatchResult came (λ a. Of a o) (λ e. At e o)) (λ o at. at_err (λ a. Of a o) (λ e. At e o) came e is at) old new status printed
 
 -- what comes of a database that is new is printed after its name
 pub printed_new : {O E : Type 0} (name : List ℕ) (IsNew : Type 0) (Is : Outcome → Type 0) → IsNew → (old mid new : Both O E) (status : Status) → HasPrinted (new_database name) old mid → Prints Is mid new status
@@ -147,10 +133,6 @@ module _ {D : Type 0} (step : D → MessageText → List ℕ → D → Type 0) (
   served_printed before after port count w0 w v f0 f g ends (inl s) =
       inl (s.0, s.1, ap (λ n. n + g) s.2, s.3, subst (λ (err : List ℕ). Appends v v err) (sym s.1.silent) (appends_none v), s.4)
   served_printed before after port count w0 w v f0 f g ends (inr (more, failed, grows)) = let more : f ≡ f0 + 1 = more in inr (omega (arith, more), failed, (grows, ([], appends_none v)))
-
-  -- where the writer of lines failed, nobody was served before the line of the port was out
-  pub served_cut : (before after : D) (port count : ℕ) (w0 w : Option (List ℕ)) (f0 f g : ℕ) → (f ≡ f0 + 1 → IsCutOff step peers before port count w0 w after) → f + g ≡ f0 + g + 1 → ServesBehind step peers port count before after w0 w
-  served_cut before after port count w0 w f0 f g cut failed = elim (cut (omega (arith, failed))) [ inl none ↦ inl none.1 | inr some ↦ inr some ]
 
 -- a file that could not be read is one of which nothing is known
 pub of_any_file : (holds : Found → Type 0) (o : Outcome) → IsUnreadFile holds o → IsUnreadFile (λ _. ⊤) o

@@ -1,11 +1,10 @@
 //! What a line does at a desk.
 
-ghost use Rattle.std.specs.Prelude.{◌≡◌, ◌≢◌, ◌⊎◌, ◌+◌, ◌-◌, ◌^◌, ◌<◌, IfOk, IfErr, MatchResult};
+ghost use Rattle.std.specs.Prelude.{◌≡◌, ◌≢◌, ◌⊎◌, ◌+◌, IfOk, IfErr, MatchResult};
 ghost use Rattle.web.specs.Connections.{Connect};
 ghost use Rattle.web.specs.Serving.{AnswersFrom};
 ghost use Rattle.cli.specs.Outputs.{CanFail, both_failures};
 ghost use Rattle.cli.specs.Outcomes.{Prints, IsServed, IsUnbound, ServesBehind};
-ghost use Rattle.cli.specs.Inside.Outcomes.{IsCutOff, Serves};
 ghost use Rattle.cli.specs.Databases.{ComesFrom, CutsOff, TakesTo};
 
 use crate::outputs::Outputs;
@@ -48,34 +47,7 @@ fn status_after(served: u32, count: u32) -> Status
     }
 }
 
-/// Serves connections of a port at a desk, and writes a line of each after that of the port.
-fn serve_at<S: Alter, D: Door, O: Sink>(
-    alloc: Global,
-    desk: &mut Desk<S>,
-    door: &mut D,
-    serving: Serving,
-    out: &mut O,
-) -> Status
-    requires { O.failures out.old < 2 ^ 64 - 1 }
-    ensures printed { Serves (AnswersFrom S.Store) (D.peers door.old) serving.port serving.count desk.old desk.new (O.written out.old) (O.written out.new) (O.failures out.old) (O.failures out.new) result }
-
-    // Nothing is served before the line of the port is out.
-    ensures cut { O.failures out.new ≡ O.failures out.old + 1 → IsCutOff (AnswersFrom S.Store) (D.peers door.old) desk.old serving.port serving.count (O.written out.old) (O.written out.new) desk.new }
-    ensures served { (came : _) × Connect (AnswersFrom S.Store) (D.peers door.old) desk.old came desk.new }
-{
-    let Ok(()) = write_all(
-        out,
-        labelled(b"listening ", u32::from(serving.port)).as_slice(),
-    ) else {
-        return Status::Failure;
-    };
-    match serve_on(alloc, desk, door, serving.count, out) {
-        Ok(served) => status_after(served, serving.count),
-        Err(_) => Status::Failure,
-    }
-}
-
-/// Serves connections of a port at a desk, where it was bound, or prints that it could not be bound.
+/// Serves connections of a port at a desk, and writes a line of each after that of the port, or prints that it could not be bound.
 fn serve_bound<S: Alter, D: Door, O: Sink, E: Sink>(
     alloc: Global,
     desk: &mut Desk<S>,
@@ -93,12 +65,21 @@ fn serve_bound<S: Alter, D: Door, O: Sink, E: Sink>(
     // Nobody is served before the line of the port is out.
     ensures cut { both_failures outputs.new ≡ both_failures outputs.old + 1 → IfOk bound (λ door. ServesBehind (AnswersFrom S.Store) (D.peers door) serving.port serving.count desk.old desk.new outputs.old.out.written outputs.new.out.written) }
 {
-    match bound {
-        Ok(mut door) => serve_at(alloc, desk, &mut door, serving, &mut outputs.out),
-        Err(_) => outputs.print_err(
+    let Ok(mut door) = bound else {
+        return outputs.print_err(
             labelled(b"no port ", u32::from(serving.port)).as_slice(),
             Status::Failure,
-        ),
+        );
+    };
+    let Ok(()) = write_all(
+        &mut outputs.out,
+        labelled(b"listening ", u32::from(serving.port)).as_slice(),
+    ) else {
+        return Status::Failure;
+    };
+    match serve_on(alloc, desk, &mut door, serving.count, &mut outputs.out) {
+        Ok(served) => status_after(served, serving.count),
+        Err(_) => Status::Failure,
     }
 }
 

@@ -1,11 +1,9 @@
 -- For proofs alone. What a line of the program comes to: what it prints where, and its status.
 use Rattle.std.specs.Prelude.{◌≡◌, ◌⊎◌, ℕ, ◌+◌, List, Option}
 use Rattle.std.specs.Io.KnownBytes.{Appends}
-use Rattle.web.specs.Connections.{SomeServed}
 use Rattle.http_stream.specs.Run.{MessageText}
 use Rattle.host.specs.WorldState.{Peer}
-use Rattle.cli.specs.Outcomes.{Outcome, listening, IsServed}
-use Rattle.cli.specs.Outputs.{IsCut}
+use Rattle.cli.specs.Outcomes.{Outcome, IsServed}
 use Rattle.cli.specs.declared.status.Status.{Status}
 use Rattle.cli.specs.declared.status.Status.TheVariants.{Failure}
 
@@ -15,9 +13,3 @@ module _ {D : Type 0} (step : D → MessageText → List ℕ → D → Type 0) (
   Serves port count before after w0 w failures0 failures status =
       ((o : Outcome) × IsServed step peers port count before after o × (failures ≡ failures0) × Appends w0 w o.out × (status ≡ o.status))
       ⊎ ((failures ≡ failures0 + 1) × (status ≡ Failure) × ((more : List ℕ) × Appends w0 w more))
-
-  -- The writer failed while it wrote the line of the port, and no connection was served, or later, while it wrote the line of a connection.
-  abbrev pub IsCutOff : D → ℕ → ℕ → Option (List ℕ) → Option (List ℕ) → D → Type 0
-  IsCutOff before port count w0 w after =
-      (IsCut (listening port) w0 w × (after ≡ before))
-      ⊎ ((between : Option (List ℕ)) × Appends w0 between (listening port) × SomeServed step peers before count between w after)
