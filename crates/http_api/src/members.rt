@@ -49,30 +49,21 @@ pub fn read_json(alloc: Global, body: &[u8]) -> Result<Value, Refusal>
 fn member_count(value: &Value) -> Option<usize>
     ensures { result ≡ option_map members_count (as_object (view value.now)) }
 {
-    match value.as_object() {
-        None => None,
-        Some(members) => Some(members.len()),
-    }
+    Some(value.as_object()?.len())
 }
 
 /// Whether it is an object of this many members.
 fn has_size(value: &Value, n: usize) -> bool
     ensures { result ≡ has_size n (view value.now) }
 {
-    match member_count(value) {
-        None => false,
-        Some(count) => count == n,
-    }
+    member_count(value) == Some(n)
 }
 
 /// Returns the text of a member.
 fn text_in<'v>(value: &'v Value, name: &str) -> Option<&'v str>
     ensures { option_map (λ text. text.now) result ≡ text_in name.now (view value.now) }
 {
-    match value.get(name) {
-        None => None,
-        Some(member) => member.as_str(),
-    }
+    value.get(name)?.as_str()
 }
 
 /// Returns the quota that a number is: a whole number up to `NO_QUOTA`, or that.
@@ -89,13 +80,8 @@ fn quota_of(number: Option<u64>) -> u32
 fn quota_in(value: &Value) -> Option<u32>
     ensures { result ≡ quota_in (view value.now) }
 {
-    match value.get("quota") {
-        None => None,
-        Some(member) => match member.as_number() {
-            None => None,
-            Some(number) => Some(quota_of(number.as_u64())),
-        },
-    }
+    let number = value.get("quota")?.as_number()?;
+    Some(quota_of(number.as_u64()))
 }
 
 /// Returns the text of a member that stands alone.
@@ -119,13 +105,9 @@ pub fn name_of(value: &Value) -> Option<&str>
 fn name_and_quota(value: &Value) -> Option<NameAndQuota<'_>>
     ensures { option_map (λ both. (both.name.now, both.quota)) result ≡ name_and_quota (view value.now) }
 {
-    match text_in(value, "name") {
-        None => None,
-        Some(name) => match quota_in(value) {
-            None => None,
-            Some(quota) => Some(NameAndQuota { name, quota }),
-        },
-    }
+    let name = text_in(value, "name")?;
+    let quota = quota_in(value)?;
+    Some(NameAndQuota { name, quota })
 }
 
 /// Returns the members of a supervisor.
@@ -146,27 +128,20 @@ pub fn project_members(value: &Value) -> Option<ProjectMembers<'_>>
     if !has_size(value, 3) {
         return None;
     }
-    match name_and_quota(value) {
-        None => None,
-        Some(both) => match text_in(value, "supervisor") {
-            None => None,
-            Some(supervisor) => Some(ProjectMembers {
-                name: both.name,
-                quota: both.quota,
-                supervisor,
-            }),
-        },
-    }
+    let NameAndQuota { name, quota } = name_and_quota(value)?;
+    let supervisor = text_in(value, "supervisor")?;
+    Some(ProjectMembers {
+        name,
+        quota,
+        supervisor,
+    })
 }
 
 /// Returns the aim that stands alone, by its word.
 pub fn aim_of(value: &Value) -> Option<Aim>
     ensures { result ≡ aim_of (view value.now) }
 {
-    match lone_text(value, "aim") {
-        None => None,
-        Some(word) => Aim::of_word(word),
-    }
+    Aim::of_word(lone_text(value, "aim")?)
 }
 
 /// Returns the texts of items that are all texts.
@@ -188,22 +163,15 @@ fn choices_in(value: &Value) -> Option<&Vec<Value>>
     ensures { option_map (λ items. items_view items.now.items) result
         ≡ option_and_then as_array (get (codes "choices") (view value.now)) }
 {
-    match value.get("choices") {
-        None => None,
-        Some(member) => member.as_array(),
-    }
+    value.get("choices")?.as_array()
 }
 
 /// Returns the choices that stand alone. An `Err` is out of memory.
 pub fn choices_of(alloc: Global, value: &Value) -> Result<Option<Texts>, AllocError>
     ensures { IfOk result (λ choices. choices ≡ choices_of (view value.now)) }
 {
-    if has_size(value, 1) {
-        match choices_in(value) {
-            None => Ok(None),
-            Some(items) => texts_of(alloc, items.as_slice()),
-        }
-    } else {
-        Ok(None)
+    match choices_in(value) {
+        Some(items) if has_size(value, 1) => texts_of(alloc, items.as_slice()),
+        _ => Ok(None),
     }
 }

@@ -63,10 +63,7 @@ fn object_asks(alloc: Global, what: Put, code: &str, body: &[u8]) -> Result<Plai
         ⊎ (refusal ≡ Refusal.Memory)) }
 {
     let value = read_json(alloc, body)?;
-    match put_by(alloc, what, code, &value)? {
-        None => Err(Refusal::Members),
-        Some(plain) => Ok(plain),
-    }
+    put_by(alloc, what, code, &value)?.ok_or(Refusal::Members)
 }
 
 /// Returns what an empty body asks.
@@ -78,10 +75,7 @@ fn empty_asks(alloc: Global, call: Call, code: &str, body: &[u8]) -> Result<Requ
     if !body.is_empty() {
         return Err(Refusal::Members);
     }
-    match called(alloc, call, code) {
-        Ok(request) => Ok(request),
-        Err(_) => Err(Refusal::Memory),
-    }
+    Ok(called(alloc, call, code)?)
 }
 
 /// Returns the round that a body opens: by its member, or, where it is empty, a greedy one.
@@ -94,10 +88,8 @@ fn opening_asks(alloc: Global, body: &[u8]) -> Result<Plain, Refusal>
         return Ok(Plain::OpenRound { aim: Aim::Greedy });
     }
     let value = read_json(alloc, body)?;
-    match aim_of(&value) {
-        None => Err(Refusal::Members),
-        Some(aim) => Ok(Plain::OpenRound { aim }),
-    }
+    let aim = aim_of(&value).ok_or(Refusal::Members)?;
+    Ok(Plain::OpenRound { aim })
 }
 
 /// Returns the import that a body is the text of.
@@ -124,18 +116,9 @@ fn by_body(alloc: Global, form: Form, code: &str, body: &[u8]) -> Result<Request
 {
     match form {
         Form::Empty(call) => empty_asks(alloc, call, code, body),
-        Form::Members(what) => match object_asks(alloc, what, code, body) {
-            Ok(plain) => Ok(Request::Plain(plain)),
-            Err(refusal) => Err(refusal),
-        },
-        Form::Opens => match opening_asks(alloc, body) {
-            Ok(plain) => Ok(Request::Plain(plain)),
-            Err(refusal) => Err(refusal),
-        },
-        Form::Raw(kind) => match import_asks(alloc, kind, code, body) {
-            Ok(request) => Ok(request),
-            Err(_) => Err(Refusal::Memory),
-        },
+        Form::Members(what) => Ok(Request::Plain(object_asks(alloc, what, code, body)?)),
+        Form::Opens => Ok(Request::Plain(opening_asks(alloc, body)?)),
+        Form::Raw(kind) => Ok(import_asks(alloc, kind, code, body)?),
     }
 }
 

@@ -37,10 +37,7 @@ fn narrow(place: Option<usize>) -> Option<u8>
     requires { IfSome place (λ k. k < 256) }
     ensures { result ≡ place }
 {
-    match place {
-        Some(place) => Some(place as u8),
-        None => None,
-    }
+    Some(place? as u8)
 }
 
 /// Returns the places of the students admitted, as a matching.

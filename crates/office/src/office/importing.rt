@@ -20,10 +20,7 @@ impl Office {
     pub fn kept_rows(&self, id: &str) -> Option<u32>
         ensures { result ≡ kept_rows self.now id.now }
     {
-        match self.imports.by_code(id) {
-            Some(import) => Some(import.rows),
-            None => None,
-        }
+        Some(self.imports.by_code(id)?.rows)
     }
 
     /// Returns why an import can't be made, whatever its text is.
@@ -78,13 +75,9 @@ impl Office {
             return Ok(self.answered(Reply::Rows(rows)));
         }
         let mut next = self.copy()?;
-        match next.import_new(id, kind, bytes, rows) {
-            Ok(done) => {
-                mem::swap(self, &mut next);
-                Ok(done)
-            }
-            Err(refusal) => Err(refusal),
-        }
+        let done = next.import_new(id, kind, bytes, rows)?;
+        mem::swap(self, &mut next);
+        Ok(done)
     }
 
     /// Makes an import whose id is free. Where it is refused, some of its rows may have been made.

@@ -54,10 +54,7 @@ impl Office {
     fn placement_of(&self, student: &str) -> Option<Placement>
         ensures { result ≡ placement_of self.now student.now }
     {
-        match self.placements.by_code(student) {
-            Some(placement) => Some(placement.copy()),
-            None => None,
-        }
+        Some(self.placements.by_code(student)?.copy())
     }
 
     /// Returns a student, as answered.

@@ -52,10 +52,7 @@ impl Office {
     pub fn list_of(&self, round: u32, student: &str) -> Option<&Listed>
         ensures { option_copied result ≡ list_of self.now round student.now }
     {
-        match self.rounds.by_number(round) {
-            Some(round) => round.lists.by_code(student),
-            None => None,
-        }
+        self.rounds.by_number(round)?.lists.by_code(student)
     }
 
     /// Returns the last round. Its lists are shared.

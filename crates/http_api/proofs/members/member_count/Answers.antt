@@ -13,5 +13,5 @@ counted (m ∷ ms) = let e = counted ms in omega arith
 viewed : (ms : List (String Global × Value)) → members_count (members_view ms) ≡ length ms
 viewed ms = counted (map (λ m. (m.0, view m.1)) ms) ∙ simp length-map
 
-pub returns-in-Some : goal.returns-in-Some
-returns-in-Some c = ap Some (c.len.ensures.len ∙ sym (viewed c.in-Some.members.now.entries)) ∙ ap (option_map members_count) c.in-Some.ensures
+pub returns : goal.returns
+returns c = ap Some (c.len.ensures.len ∙ sym (viewed c.in_ok-as_object.field-0.now.entries)) ∙ ap (option_map members_count) c.in_ok-as_object.ensures
