@@ -3,6 +3,7 @@
 ghost use Rattle.std.specs.Prelude.{◌≡◌, ◌≤◌, ℕ, List, map, length, Option, None, IfOk};
 ghost use Rattle.office.specs.closing.Common.{MAX_PROJECTS, MAX_SUPERVISORS, instance_of, count_in, count_with, offers};
 ghost use Rattle.office.specs.closing.Handed.{ArePartsOfFit, IsInstanceLeft};
+ghost use Rattle.spa.specs.Named.{IsFit};
 ghost use Rattle.office.specs.closing.Inside.Handed.{AreProjectsLeft, AreSupervisorsLeft, student_listed};
 
 use office_model::{Choices, Entries, Listed, Placement, Project, Supervisor, counted};
@@ -112,7 +113,8 @@ pub fn round_instance(
     lists: &[Listed],
 ) -> Result<Instance, AllocError>
     requires { ArePartsOfFit supervisors.now projects.now placements.now lists.now }
-    ensures { IfOk result (λ i. IsInstanceLeft up_to supervisors.now projects.now placements.now lists.now (instance_of i)) }
+    ensures instance { IfOk result (λ i. IsInstanceLeft up_to supervisors.now projects.now placements.now lists.now (instance_of i)) }
+    ensures fit { IfOk result IsFit }
 {
     let roll = projects.entries();
     let counts = counted(up_to, supervisors, roll, placements);

@@ -2,7 +2,7 @@
 
 ghost use Rattle.std.specs.Prelude.{◌≡◌, IfOk, OnErr, IsTrue};
 ghost use Rattle.office.specs.Common.{round_is_open, IsClosed};
-ghost use Rattle.spa.specs.Named.{instance_of};
+ghost use Rattle.spa.specs.Named.{IsFit, instance_of};
 ghost use Rattle.spa.specs.Coded.{taken};
 ghost use Rattle.office_model.specs.Instances.{instance_left, instance_of_round, round_instance};
 ghost use Rattle.office_model.specs.Counted.{count_in, count_with};
@@ -20,7 +20,8 @@ impl Office {
     /// Returns the instance of a round: the supervisors and projects with what the rounds up to one left of their quotas, or all rounds
     /// where none is named, and the students with a list in it.
     fn instance_left(&self, up_to: Option<u32>, round: u32) -> Result<Instance, AllocError>
-        ensures { let o = self.now in IfOk result (λ instance. instance_of instance ≡ instance_left (count_with up_to o.projects o.placements) (count_in up_to o.placements) o round) }
+        ensures instance { let o = self.now in IfOk result (λ instance. instance_of instance ≡ instance_left (count_with up_to o.projects o.placements) (count_in up_to o.placements) o round) }
+        ensures fit { IfOk result IsFit }
     {
         round_instance(
             self.alloc,
@@ -45,6 +46,7 @@ impl Office {
     pub fn instance(&self) -> Result<Instance, AllocError>
         requires open { IsTrue (round_is_open self.now) }
         ensures instance { IfOk result (λ instance. instance_of instance ≡ round_instance self.now) }
+        ensures fit { IfOk result IsFit }
     {
         self.instance_left(None, self.last_round())
     }

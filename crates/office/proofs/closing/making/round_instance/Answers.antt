@@ -25,8 +25,8 @@ prove-unreachable-requires c =
       | in_default w ↦ w.in_default.not-Memory memory
     ]
 
-pub returns-in-Ok : goal.returns-in-Ok
-returns-in-Ok c o n are =
+pub returns-in-Ok-clause-instance : goal.returns-in-Ok-clause-instance
+returns-in-Ok-clause-instance c o n are =
     let projects = c.in_ok-projects.ensures c.args.up_to c.args.supervisors.now c.args.placements.now c.counted-counts.ensures ∙ ap (map (project_left c.args.up_to c.args.placements.now)) c.entries-roll.ensures.all in
     let supervisors =
     c.in_ok-supervisors.ensures c.args.up_to c.entries-roll.result.now c.args.placements.now c.counted-counts.ensures

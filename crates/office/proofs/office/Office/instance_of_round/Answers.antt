@@ -11,4 +11,4 @@ of_equal P n m h e = subst P e h
 pub returns : goal.returns
 returns c =
     let o : State = c.args.self.now in
-    record { instance = of_equal (λ (n : ℕ). IfOk c.instance_left.result (λ i. instance_of i ≡ instance_left (count_with (Some n) o.projects o.placements) (count_in (Some n) o.placements) o c.args.round)) _ (c.args.round - 1) c.instance_left.ensures (omega arith) }
+    record { instance = of_equal (λ (n : ℕ). IfOk c.instance_left.result (λ i. instance_of i ≡ instance_left (count_with (Some n) o.projects o.placements) (count_in (Some n) o.placements) o c.args.round)) _ (c.args.round - 1) c.instance_left.ensures.instance (omega arith) }
