@@ -1,8 +1,9 @@
 """Edits of a crate's bodies: mutants, mistakes and twins, and the functions that each strikes.
 
-An edit is a file crates/CRATE/FOLDER/NAME.edit: a line `why:`, and for each text that it changes lines `file:`, `old:` and `new:`. Of `must-fail`
-`rt ci` tries each by itself; of `mistakes` and `twins` `mistakes.py` tries many in one check. A mutant and a mistake must be refused, a twin must
-be proved. A twin that says `refused:` is right, and is refused for its shape alone, as that line tells.
+An edit is a file crates/CRATE/FOLDER/NAME.edit: a line `why:`, and for each text that it changes lines `file:`, `old:` and `new:`. One that
+changes a constant names in a line `strikes:` a function that shows it. Of `must-fail` `rt ci` tries each by itself; of `mistakes` and `twins`
+`mistakes.py` tries many in one check. A mutant and a mistake must be refused, a twin must be proved. A twin that says `refused:` is right,
+and is refused for its shape alone, as that line tells.
 """
 import itertools
 import re
@@ -79,12 +80,12 @@ class Text:
 
 
 class Edit:
-    """A mutant, a mistake or a twin. One that stands in no function may change any."""
+    """A mutant, a mistake or a twin. One that changes a constant may change any function, so it is tried alone."""
 
     def __init__(self, path):
         _, self.crate, self.folder, name = path.split("/")
         self.name, self.pairs, self.texts, self.struck, self.fault = name.removesuffix(".edit"), [], {}, set(), None
-        said = {"why": [], "also": [], "refused": []}
+        said = {"why": [], "also": [], "refused": [], "strikes": []}
         file = old = ""
         for line in read(path).split("\n"):
             word, _, rest = line.partition(":")
@@ -111,16 +112,19 @@ class Edit:
             if not is_aside(old, new):
                 self.struck.add(Text(file, text).at(at + len(old) - len(old.lstrip())))
             self.texts[file] = text.replace(old, new)
-        self.is_anywhere = not self.struck or None in self.struck
+        self.is_alone = not self.struck or None in self.struck
+        self.struck.update(said["strikes"])
         # edits of one part may stand in one round
         self.part = ()
         self.struck.discard(None)
+        if not self.struck and self.folder != FOLDERS[0]:
+            self.fault = "it stands in no function, and names none in a line `strikes:`"
         self.copied = None
 
     def copy(self, number):
         """Has the edit strike a copy of its function, with this number, where one can stand beside it."""
         files = {file for file, old, new in self.pairs if not is_aside(old, new)}
-        if self.is_anywhere or len(self.struck) > 1 or len(files) > 1:
+        if self.is_alone or len(self.struck) > 1 or len(files) > 1:
             return
         (name,), (file,) = self.struck, files
         text = Text(file, read("crates", self.crate, file))

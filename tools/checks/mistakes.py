@@ -53,7 +53,7 @@ def packed(edits, calls):
     round, left, struck, below = [], [], set(), set()
     for edit in edits:
         names = edit.struck | set().union(*(reached(calls, name) for name in edit.struck))
-        if round and (edit.is_anywhere or round[0].is_anywhere or edit.part != round[0].part or edit.struck & below or names & struck):
+        if round and (edit.is_alone or round[0].is_alone or edit.part != round[0].part or edit.struck & below or names & struck):
             left.append(edit)
         else:
             round.append(edit)
@@ -99,9 +99,7 @@ def check(crate, round, kept):
             if os.path.isdir(f"{crate.folder}/{part}"):
                 shutil.copytree(f"{crate.folder}/{part}", f"{room}/{part}")
         round = applied(round, room)
-        # one that stands in no function may change any
-        names = () if any(edit.is_anywhere for edit in round) else sorted({name for edit in round for name in edit.struck})
-        only = [word for name in names for word in ("--only", name)]
+        only = [word for name in sorted({name for edit in round for name in edit.struck}) for word in ("--only", name)]
         command = [rtlib.RATTLE, "check", *crate.words(["--jobs", "1"], keeps=False), *only, "--incremental", kept]
         how = {"cwd": room, "stdin": subprocess.DEVNULL, "stdout": subprocess.PIPE, "stderr": subprocess.STDOUT, "text": True, "errors": "replace"}
         ran = subprocess.Popen([*rtlib.guarded(), *command], **how)
@@ -121,7 +119,7 @@ def own(edit, name):
     """Whether the function of this name, as the prover has it, is one that the edit strikes, or a closure in one."""
     inside = name.partition("::")[2]
     closures = [f"{it.rpartition('::')[0]}::fn::{it.rpartition('::')[2]}::".lstrip(":") for it in edit.struck]
-    return edit.is_anywhere or short(inside) in edit.struck or any(it in inside for it in closures)
+    return short(inside) in edit.struck or any(it in inside for it in closures)
 
 
 def judged(edit, said):
