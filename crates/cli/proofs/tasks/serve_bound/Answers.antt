@@ -24,5 +24,9 @@ returns-clause-printed g c =
     rw (← c.outputs.view_is)
     (ok_printed (λ door o. IsServed (AnswersFrom g.S.Store) (g.D.Door.peers door) c.args.serving.port c.args.serving.count _ _ o) (λ _ o. IsUnbound c.args.serving.port _ _ o) c.args.bound c.in-Ok.door c.in-Ok.is _ _ _
     (served_printed (AnswersFrom g.S.Store) (g.D.Door.peers c.in-Ok.door) _ _ c.args.serving.port c.args.serving.count _ _ _ _ _ _ _
-    (inr (c.in-Err.ensures.count_err ∙ ap (λ n. n + 1) c.in-Ok-write_all.ensures.count_ok, refl, some_grows (AnswersFrom g.S.Store) (g.D.Door.peers c.in-Ok.door) _ _ c.args.serving.port c.args.serving.count _ _ _
-    (subst (λ (t : List ℕ). Appends (g.O.Sink.written c.outputs.inside.out) (g.O.Sink.written c.write_all.new.writer) t) (search rules) c.in-Ok-write_all.ensures.ok) c.in-Err.ensures.broken))))
+    (inr (
+      c.in-Err.ensures.count_err ∙ ap (λ n. n + 1) c.in-Ok-write_all.ensures.count_ok,
+      refl,
+      some_grows (AnswersFrom g.S.Store) (g.D.Door.peers c.in-Ok.door) _ _ c.args.serving.port c.args.serving.count _ _ _
+          (subst (λ (t : List ℕ). Appends (g.O.Sink.written c.outputs.inside.out) (g.O.Sink.written c.write_all.new.writer) t) (search rules) c.in-Ok-write_all.ensures.ok) c.in-Err.ensures.broken,
+    ))))
