@@ -40,7 +40,6 @@ pub fn close(alloc: Global, office: &mut Office) -> Result<Done, AllocError>
     ensures memory { OnErr result (office.new ≡ office.old) }
 {
     let instance = office.instance()?;
-    instance.fit();
     let aim = office.last_aim();
     let solved = solve(alloc, &instance, aim)?;
     office.close(&solved.matching)

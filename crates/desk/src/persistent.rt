@@ -114,7 +114,6 @@ impl<S: Alter> PersistentOffice<S> {
     {
         let mut next = self.office().copy()?;
         let done = make_change(self.alloc, &mut next, request)?;
-        next.fit();
         self.exchange(&mut next, done)
     }
 

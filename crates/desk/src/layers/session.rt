@@ -47,7 +47,6 @@ pub fn start_session(alloc: Global, office: &Office) -> Result<Session, AllocErr
 pub fn read_preview(session: &Session) -> Reply
     ensures made { (o : State) → IsSessionOf o session.now → Makes layers o request.Preview result o }
 {
-    session.matched();
     Reply::Preview {
         size: session.size(),
         profile: session.profile(),

@@ -38,20 +38,20 @@ pub returns-clause-made : goal.returns-clause-made
 returns-clause-made c =
     let o : State = c.args.office.now in
     let ks = c.in_ok-solved.solved.matching.places.items in
-    let found = taken_best o c.last_aim-aim.result c.last_aim-aim.ensures.aim c.in_ok-instance.instance ks c.fit.ensures c.in_ok-instance.ensures.instance c.in_ok-solved.ensures.proved.matched c.in_ok-solved.ensures.best c.requires.open in
+    let found = taken_best o c.last_aim-aim.result c.last_aim-aim.ensures.aim c.in_ok-instance.instance ks c.in_ok-instance.ensures.fit c.in_ok-instance.ensures.instance c.in_ok-solved.ensures.proved.matched c.in_ok-solved.ensures.best c.requires.open in
     closes o _ (taken (round_instance o).students ks) found.0 found.1 _ c.close.ensures.ok
 
 pub returns-clause-changes : goal.returns-clause-changes
 returns-clause-changes c =
     let o : State = c.args.office.now in
     let ks = c.in_ok-solved.solved.matching.places.items in
-    let found = taken_best o c.last_aim-aim.result c.last_aim-aim.ensures.aim c.in_ok-instance.instance ks c.fit.ensures c.in_ok-instance.ensures.instance c.in_ok-solved.ensures.proved.matched c.in_ok-solved.ensures.best c.requires.open in
+    let found = taken_best o c.last_aim-aim.result c.last_aim-aim.ensures.aim c.in_ok-instance.instance ks c.in_ok-instance.ensures.fit c.in_ok-instance.ensures.instance c.in_ok-solved.ensures.proved.matched c.in_ok-solved.ensures.best c.requires.open in
     changes_so o (taken (round_instance o).students ks) found.0 found.1 _ c.close.ensures.changes
 
 pub close-requires-clause-matching : goal.close-requires-clause-matching
 close-requires-clause-matching c = record {
   instance = c.in_ok-instance.instance;
-  fit = c.fit.ensures;
+  fit = c.in_ok-instance.ensures.fit;
   same = c.in_ok-instance.ensures.instance;
   matched = c.in_ok-solved.ensures.proved.matched;
 }

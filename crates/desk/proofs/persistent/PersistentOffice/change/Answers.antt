@@ -2,7 +2,7 @@ use Rattle.std.proofs.Common.{◌≡◌, inl, inr, Result, Err, None, refl, ap, 
 use Rattle.desk.proofs.Common.{State, Transforms, Makes, refusal, layers, state, Seen, IsCaused, IsHinderedAmong, Request, Done, Storage, CarriesOut}
 use Rattle.desk.specs.layers.Changes.{MayChange}
 use Rattle.desk.specs.Causes.{IsHinderedToAsk}
-use Rattle.desk.proofs.layers.Allowed.{may_allowed}
+use Rattle.desk.proofs.layers.Allowed.{may_allowed, request_fits}
 use Rattle.desk.proofs.Available.{available_so, ours_so}
 use Rattle.desk.proofs.Asked.{idle_saved}
 use Rattle.desk.proofs.SavedRows.{call_carried}
@@ -42,7 +42,7 @@ returns-clause-saved g c =
     let may = subst (λ (o : State). MayChange o q done.changes.items) same c.in_ok-done.ensures.changes in
     let few = may_allowed old q done.changes.items c.office.ensures.fit none may in
     record {
-      crash = call_carried q old next done (state g.S.Store c.args.self.now.store) (state g.S.Store c.exchange.new.self.store) none made c.fit.ensures.fit transforms c.office.ensures.tables saved.crash;
+      crash = call_carried q old next done (state g.S.Store c.args.self.now.store) (state g.S.Store c.exchange.new.self.store) none made (request_fits old next q done.reply c.office.ensures.fit none made) transforms c.office.ensures.tables saved.crash;
       alone = λ _. saved.alone;
       stays_open = λ _. saved.stays_open;
       stays_shut = saved.stays_shut;
