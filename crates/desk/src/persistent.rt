@@ -86,6 +86,7 @@ impl<S: Alter> PersistentOffice<S> {
         ensures fit { IsFit self.now.office }
         ensures live { IsLive (state S.Store self.now.store) }
     {
+        // Both are asked for their clauses alone.
         self.office.fit();
         self.store.shows();
         &self.office
