@@ -75,9 +75,13 @@ impl Office {
             return Ok(self.answered(Reply::Rows(rows)));
         }
         let mut next = self.copy()?;
-        let done = next.import_new(id, kind, bytes, rows)?;
-        mem::swap(self, &mut next);
-        Ok(done)
+        match next.import_new(id, kind, bytes, rows) {
+            Ok(done) => {
+                mem::swap(self, &mut next);
+                Ok(done)
+            }
+            Err(refusal) => Err(refusal),
+        }
     }
 
     /// Makes an import whose id is free. Where it is refused, some of its rows may have been made.
