@@ -132,7 +132,10 @@ impl<S: Alter> Desk<S> {
     pub fn session_steps(&self) -> Option<u64>
         ensures steps { result ≡ option_map (λ s. s.steps) self.now.session }
     {
-        Some(self.session.as_ref()?.steps())
+        match &self.session {
+            Some(session) => Some(session.steps()),
+            None => None,
+        }
     }
 
     /// Asks all the requests in order, each answered by a step. Running out of memory for the answers comes before the first request
