@@ -339,7 +339,7 @@ class Rows:
 
 def main():
     rows = Rows()
-    rows.add("# Made by school_rows.py: a school at all limits, with names of 200 bytes and imports of 65,536.")
+    rows.add("# Made by tools/makers/school_rows.py: a school at all limits, with names of 200 bytes and imports of 65,536.")
     rows.rolls()
     for number in range(1, ROUNDS):
         rows.early_round(number)
