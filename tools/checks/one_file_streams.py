@@ -19,7 +19,7 @@ import sys
 import tempfile
 
 sys.path.append(f"{sys.path[0]}/..")
-from office import EXAMPLE, FIRST_EDITION, SECOND_EDITION, TOP, alter, answered, line, message, read, serving
+from office import EXAMPLE, FIRST_EDITION, SECOND_EDITION, TOP, alter, answered, line, message, serving
 
 EACH = 20  # streams over a file
 EDITIONS = (None, FIRST_EDITION, SECOND_EDITION, "")
