@@ -1,20 +1,19 @@
 -- A draft may be completed, and a complete one is the parts of its text.
-use Rattle.std.proofs.Common.{◌≡◌, ℕ, zero, suc, ◌+◌, ◌-◌, ◌<◌, ℤ, List, [], ◌∷◌, ◌++◌, length, map, flat_map, get_or, replicate, codes, Option, Some, None, All, Contains, slice_get, refl, sym, ap, ◌∙◌, subst, arith, append-nil}
-use Rattle.intake.proofs.Common.{AllZip, length-map, All-map, Aim, Instance, Kind, Round, Public, Supervisor, Project, Student, supervisor_codes, project_codes, student_codes, IsFirstRepeated, IsListOf, IsFirstUnknown, IsListFault, IsFirstListFault, IsFirstInstanceFault, Parts, Rise, IsPlace, ArePricesOrNone, ArePricesUpTo, IsPublicText, IsRoundParts, Row, line, lines_of, section_lines, priced, price_section, pair_row, aim_rows, supervisor_row, project_row, student_row, BeginsLines, IsDraft, IsWhole, ArePlaces, NoneOrAll, AreComplete, ArePricedUpTo, with_prices}
+use Rattle.std.proofs.Common.{◌≡◌, ℕ, zero, suc, ◌+◌, ◌-◌, ◌<◌, ℤ, List, [], ◌∷◌, ◌++◌, length, map, flat_map, get_or, replicate, codes, Option, Some, None, All, Contains, slice_get, refl, sym, ap, ◌∙◌, subst, arith, append-nil, append_assoc}
+use Rattle.intake.proofs.Common.{AllZip, map-append, length-map, All-map, Aim, Instance, Kind, Round, Public, Supervisor, Project, Student, supervisor_codes, project_codes, student_codes, IsFirstRepeated, IsListOf, IsFirstUnknown, IsListFault, IsFirstListFault, IsFirstInstanceFault, Parts, Rise, IsPlace, IsPrice, ArePricesOrNone, ArePricesUpTo, IsPublicText, IsRoundParts, Row, line, lines_of, section_lines, sections, priced, price_section, pair_row, pair_rows, aim_rows, supervisor_row, project_row, student_row, BeginsLines, IsDraft, IsWhole, AreFirst}
 use Rattle.spa.specs.declared.fault.Roll.TheVariants.{Supervisors, Projects, Students}
 use Rattle.spa.specs.declared.fault.InstanceFault.{InstanceFault}
 use Rattle.spa.specs.declared.fault.InstanceFault.TheVariants.{Memory, Limit, RepeatedCode, UnknownSupervisor, ListLength, UnknownProject, RepeatedProject}
 use Rattle.intake.proofs.Found.{slice_get_at}
 use Rattle.intake.proofs.PairLine.{one_place, all_found}
-use Rattle.intake.proofs.Prices.{filled, filled_all, filled_prices, filled_rows, changed_complete, priced_changed, some_turn}
+use Rattle.intake.proofs.Pieces.{line_of}
+use Rattle.intake.proofs.Prices.{all_filled, filled, filled_prices, filled_same, first_prices}
 use Rattle.intake.proofs.Rolls.{within_get}
-use Rattle.intake.proofs.Sections.{letter_at}
-use Rattle.intake.proofs.Steps.{prices_step}
-use Rattle.intake.proofs.Takes.{places_few}
-use Rattle.intake.proofs.Where.{blank_after}
+use Rattle.intake.proofs.Sections.{full, full_lines}
+use Rattle.intake.proofs.Where.{blank_after, first_few}
 
 -- with none for the rest there is a place or none for each
-places_all : (es : List Student) (ks : List (Option ℕ)) (n : ℕ) → length es ≡ length ks + n → ArePlaces es ks → AllZip IsPlace es (ks ++ replicate n None)
+places_all : (es : List Student) (ks : List (Option ℕ)) (n : ℕ) → length es ≡ length ks + n → AreFirst IsPlace es ks → AllZip IsPlace es (ks ++ replicate n None)
 places_all [] [] zero e h = tt
 places_all [] [] (suc n) e h = absurd (omega arith)
 places_all [] (k ∷ ks) n e h = absurd h
@@ -31,19 +30,34 @@ pub placed_lines : (p : Parts) → lines_of Round (placed p) ≡ lines_of Round 
 placed_lines p = ap (λ (l : List Row). map (line (codes "A")) (aim_rows p.aim) ++ (map (line (codes "S")) (map supervisor_row p.instance.supervisors) ++ (map (line (codes "P")) (map project_row p.instance.projects) ++ (map (line (codes "C")) (map student_row p.instance.students) ++ (map (line (codes "M")) l ++ flat_map section_lines (map (price_section Round) (priced p)))))))
     (blank_after pair_row None (λ e. refl) p.instance.students p.places (length p.instance.students - length p.places))
 
--- prices of a roll by its entries
-by_entries : {X : Type 0} (key : X → List ℕ) (es : List X) (vs : List (List ℤ)) → ArePricesUpTo (length (map key es)) vs → NoneOrAll (length (map key es)) vs → ArePricesOrNone (length es) vs
-by_entries key es vs a w = subst (λ (n : ℕ). ArePricesOrNone n vs) (length-map es key) (record { none_or_all = w; prices = a.prices })
+-- prices of a roll, filled, by its entries
+by_entries : {X : Type 0} (key : X → List ℕ) (es : List X) (vs : List (List ℤ)) → AreFirst (λ c. IsPrice) (map key es) vs → ArePricesOrNone (length es) (filled (length (map key es)) vs)
+by_entries key es vs a = subst (λ (n : ℕ). ArePricesOrNone n (filled (length (map key es)) vs)) (length-map es key) (filled_prices (length (map key es)) vs (first_prices (map key es) vs a))
+
+-- parts in which each roll that has prices has one for each entry
+abbrev filled_parts : Parts → Parts
+filled_parts p = record p {
+  student_prices = filled (length (student_codes p.instance)) p.student_prices;
+  project_prices = filled (length (project_codes p.instance)) p.project_prices;
+  supervisor_prices = filled (length (supervisor_codes p.instance)) p.supervisor_prices;
+}
+
+-- those of a draft are the parts of a text
+filled_draft : (p : Parts) → IsDraft Round p → IsRoundParts (placed (filled_parts p))
+filled_draft p d = record {
+  instance = d.instance;
+  places = (let few = first_few IsPlace p.instance.students p.places d.places in places_all p.instance.students p.places (length p.instance.students - length p.places) (omega arith) d.places);
+  student_prices = by_entries (λ (e : Student). e.code) p.instance.students p.student_prices d.prices.0;
+  project_prices = by_entries (λ (e : Project). e.code) p.instance.projects p.project_prices d.prices.2.0;
+  supervisor_prices = by_entries (λ (e : Supervisor). e.code) p.instance.supervisors p.supervisor_prices d.prices.2.2.0;
+}
 
 -- a draft that may end is the parts of its text
 pub whole_parts : (p : Parts) → IsDraft Round p → IsWhole Round p → IsRoundParts (placed p)
-whole_parts p d w = record {
-  instance = d.instance;
-  places = places_all p.instance.students p.places (length p.instance.students - length p.places) (omega (arith, places_few p.instance.students p.places d.places)) d.places;
-  student_prices = by_entries (λ (e : Student). e.code) p.instance.students p.student_prices d.prices.0.prices w.0;
-  project_prices = by_entries (λ (e : Project). e.code) p.instance.projects p.project_prices d.prices.2.0.prices w.1.0;
-  supervisor_prices = by_entries (λ (e : Supervisor). e.code) p.instance.supervisors p.supervisor_prices d.prices.2.2.0.prices w.1.1.0;
-}
+whole_parts p d w = subst (λ (q : Parts). IsRoundParts (placed q)) same (filled_draft p d)
+  where
+    same : filled_parts p ≡ p
+    same = rw (filled_same (length (student_codes p.instance)) p.student_prices w.0, filled_same (length (project_codes p.instance)) p.project_prices w.1.0, filled_same (length (supervisor_codes p.instance)) p.supervisor_prices w.1.1.0) refl
 
 -- a draft of a result is the parts of its text
 pub public_draft : (p : Parts) → IsDraft Public p → IsPublicText p
@@ -51,8 +65,8 @@ public_draft p d = record {
   instance = d.instance;
   places = d.bare.0;
   student_prices = d.bare.1;
-  project_prices = subst (λ (n : ℕ). ArePricesUpTo n p.project_prices) (length-map p.instance.projects (λ (e : Project). e.code)) d.prices.2.0.prices;
-  supervisor_prices = subst (λ (n : ℕ). ArePricesUpTo n p.supervisor_prices) (length-map p.instance.supervisors (λ (e : Supervisor). e.code)) d.prices.2.2.0.prices;
+  project_prices = subst (λ (n : ℕ). ArePricesUpTo n p.project_prices) (length-map p.instance.projects (λ (e : Project). e.code)) (first_prices (project_codes p.instance) p.project_prices d.prices.2.0);
+  supervisor_prices = subst (λ (n : ℕ). ArePricesUpTo n p.supervisor_prices) (length-map p.instance.supervisors (λ (e : Supervisor). e.code)) (first_prices (supervisor_codes p.instance) p.supervisor_prices d.prices.2.2.0);
 }
 
 -- codes that rise are distinct
@@ -108,18 +122,21 @@ same_parts aim i j ks ls u y z e f =
     ap (λ (i : Instance). let p : Parts = record { aim = aim; instance = i; places = ks; student_prices = u; project_prices = y; supervisor_prices = z } in p) e
     ∙ ap (λ (ks : List (Option ℕ)). let p : Parts = record { aim = aim; instance = j; places = ks; student_prices = u; project_prices = y; supervisor_prices = z } in p) f
 
--- the prices that are read are completed
-begins_at : (n : ℕ) (p : Parts) → IsDraft Round p → ArePricedUpTo Round n (priced p) → BeginsLines Round (lines_of Round p)
-begins_at n p d t =
-    let vs : List (List ℤ) = filled n (priced p) in
-    let more = filled_rows n (priced p) d.prices t in
-    let step = prices_step Round n vs p more.0 d tt t (filled_prices n (priced p) d.prices t) more.1 in
-    let whole : IsWhole Round (with_prices n vs p) = subst (AreComplete Round) (sym (priced_changed Round n vs p t)) (changed_complete Round n vs (priced p) t (filled_all n (priced p) d.prices t)) in
-    (placed (with_prices n vs p), map (line (letter_at n (map (price_section Round) (priced p)))) more.0, whole_parts (with_prices n vs p) step.0 whole, placed_lines (with_prices n vs p) ∙ step.1)
+-- lines after those of five sections
+after_five : (a b c d e t more : List Row) → a ++ (b ++ (c ++ (d ++ (e ++ (t ++ more))))) ≡ (a ++ (b ++ (c ++ (d ++ (e ++ t))))) ++ more
+after_five a b c d e t more = simp append_assoc
 
 -- the lines of a draft begin a text
 pub draft_begins : (k : Kind) (p : Parts) → IsDraft k p → BeginsLines k (lines_of k p)
 draft_begins Public p d = (p, [], public_draft p d, sym (append-nil (lines_of Public p)))
 draft_begins Round p d =
-    let t = some_turn (record { letter = codes "U"; codes = student_codes p.instance; prices = p.student_prices }) (record { letter = codes "Y"; codes = project_codes p.instance; prices = p.project_prices } ∷ record { letter = codes "Z"; codes = supervisor_codes p.instance; prices = p.supervisor_prices } ∷ []) d.prices in
-    begins_at t.0 p d t.1
+    let i : Instance = p.instance in
+    let m = all_filled (priced p) d.prices in
+    let a : List Row = map (λ r. codes "A" ∷ r) (aim_rows p.aim) in
+    let s : List Row = map (λ r. codes "S" ∷ r) (map supervisor_row i.supervisors) in
+    let b : List Row = map (λ r. codes "P" ∷ r) (map project_row i.projects) in
+    let c : List Row = map (λ r. codes "C" ∷ r) (map student_row i.students) in
+    let e : List Row = map (λ r. codes "M" ∷ r) (pair_rows i.students p.places) in
+    let rows : full (sections Round (filled_parts p)) ≡ full (sections Round p) ++ m.0 = ap (λ (l : List Row). a ++ (s ++ (b ++ (c ++ (e ++ l))))) m.1 ∙ after_five a s b c e (full (map (price_section Round) (priced p))) m.0 in
+    let lines = full_lines (sections Round (filled_parts p)) ∙ ap (map line_of) rows ∙ map-append line_of (full (sections Round p)) m.0 ∙ ap (λ (l : List (List ℕ)). l ++ map line_of m.0) (sym (full_lines (sections Round p))) in
+    (placed (filled_parts p), map line_of m.0, filled_draft p d, placed_lines (filled_parts p) ∙ lines)

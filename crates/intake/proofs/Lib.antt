@@ -5,8 +5,7 @@ mod Bad
 mod Ends
 mod Widths
 mod Found
-mod LineInDraft
-mod Goes
+mod Plain
 mod Lists
 mod Numbers
 mod Order
@@ -18,8 +17,9 @@ mod Rolls
 mod Sections
 mod Size
 mod Steps
-mod Takes
 mod Unique
 mod Where
 mod Whole
 mod RestOfText
+mod One
+mod Chain

@@ -1,5 +1,5 @@
 -- What a pair's line refers to.
-use Rattle.std.proofs.Common.{◌≡◌, ℕ, zero, suc, ◌-◌, ◌<◌, ◌≤◌, List, [], ◌∷◌, length, map, get_or, slice_get, Some, None, Vec, Global, All, sym, ap, ◌∙◌, subst, inl, inr, arith}
+use Rattle.std.proofs.Common.{◌≡◌, ℕ, zero, suc, ◌-◌, ◌<◌, ◌≤◌, List, [], ◌∷◌, length, map, get_or, slice_get, Option, Some, None, Vec, Global, All, sym, ap, ◌∙◌, subst, inl, inr, arith}
 use Rattle.intake.proofs.Common.{cases_order, RANKS, IsPlaceOf, Code, Finds, Student, students_of, student_codes, Parts, Rise, choice_code, NextPair}
 use Rattle.intake.proofs.Found.{slice_get_at}
 use Rattle.intake.proofs.Order.{get_found, cmp_apart}
@@ -36,28 +36,20 @@ one_place codes m n code rise e f =
     ]
 
 -- what a pair's line refers to, where the line has these two codes
-pub record Refers (p : Parts) (s k : ℕ) (a b : List ℕ) (e : Student) : Type 0 where
-  pub here : slice_get p.instance.students s ≡ Some e
+pub record Refers (p : Parts) (s : ℕ) (a b : List ℕ) (e : Student) : Type 0 where
   pub code : slice_get (student_codes p.instance) s ≡ Some a
-  pub listed : IsPlaceOf e.list k
-  pub place : slice_get e.list (k - 1) ≡ Some b
+  pub at : ℕ
+  pub place : slice_get e.list at ≡ Some b
 
 -- a pair that may be added refers to what is known
-pub refers : (p : Parts) (row : List (List ℕ)) (s k : ℕ) (a b : List ℕ) → (t : NextPair p row s k) → row ≡ a ∷ b ∷ [] → Refers p s k a b t.student
-refers p row s k a b t e =
-    let rows : t.student.code ∷ choice_code t.student.list k ∷ [] ≡ a ∷ b ∷ [] = sym t.is ∙ e in
-    let first : t.student.code ≡ a = cc in
-    let second : choice_code t.student.list k ≡ b = cc in
-    let named : slice_get (student_codes p.instance) s ≡ Some a = get_mapped (λ (x : Student). x.code) p.instance.students s t.student t.here ∙ ap Some first in
-    let listed = t.place in
-    let within : k - 1 < length t.student.list = omega arith in
-    let placed : slice_get t.student.list (k - 1) ≡ Some b = slice_get_at t.student.list (k - 1) [] b within second in
-    record {
-      here = t.here;
-      code = named;
-      listed = listed;
-      place = placed;
-    }
+pub refers : (p : Parts) (row : List (List ℕ)) (s : ℕ) (x : Option ℕ) (a b : List ℕ) → (t : NextPair p row (s, x)) → row ≡ a ∷ b ∷ [] → Refers p s a b t.entry
+refers p row s None a b t e = (let is = t.is in cc)
+refers p row s (Some k) a b t e =
+    let is : Some (t.entry.code ∷ choice_code t.entry.list k ∷ []) ≡ Some (a ∷ b ∷ []) = t.is ∙ ap Some e in
+    let first : t.entry.code ≡ a = cc in
+    let second : choice_code t.entry.list k ≡ b = cc in
+    let listed : IsPlaceOf t.entry.list k = t.fits in
+    record { code = get_mapped (λ (x : Student). x.code) p.instance.students s t.entry t.here ∙ ap Some first; at = k - 1; place = slice_get_at t.entry.list (k - 1) [] b (omega arith) second }
 
 -- a code that was found nowhere
 pub nowhere : (codes : List (List ℕ)) (n m : ℕ) (code other : List ℕ) → n ≡ length codes → code ≡ other → Finds codes n code None → slice_get codes m ≡ Some other → ⊥

@@ -1,6 +1,6 @@
 -- The pieces of a text: lines and fields.
 use Rattle.std.proofs.Common.{◌≡◌, ℕ, false, inl, inr, List, [], ◌∷◌, ◌++◌, All, refl, sym, ap, ◌∙◌, subst, append_assoc, append-nil, take, drop, ◌+◌, ◌-◌, ◌<◌, ◌≤◌, true, zero, suc, length, get_or, arith}
-use Rattle.intake.proofs.Common.{◌==◌, slice_split, onto_first, join_with_byte, cases_Bool, slice_split-cons_yes, slice_split-cons_no, slice_split_at, slice_split_none, join_with_byte-slice_split, All-nil, All-cons, All-head, All-tail, All-append, get_or-drop, drop-drop, drop_more, take_more, take_rest, length-drop, take-append-drop, ended, IsFree, line_of}
+use Rattle.intake.proofs.Common.{◌==◌, slice_split, onto_first, join_with_byte, cases_Bool, slice_split-cons_yes, slice_split-cons_no, slice_split_at, slice_split_none, join_with_byte-slice_split, All-nil, All-cons, All-head, All-tail, All-append, get_or-drop, drop-drop, drop_more, take_more, take_rest, length-drop, take-append-drop, line, ended, IsFree}
 
 -- one byte more of the first piece
 onto_free : (c b : ℕ) (parts : List (List ℕ)) → (b == c) ≡ false → All (IsFree c) parts → All (IsFree c) (onto_first b parts)
@@ -15,6 +15,11 @@ pieces_free c (b ∷ bs) =
       | inl cut ↦ subst (All (IsFree c)) (sym (slice_split-cons_yes (λ b. b == c) b bs cut)) (All-cons (IsFree c) [] (slice_split (λ b. b == c) bs) (All-nil (λ b. (b == c) ≡ false)) (pieces_free c bs))
       | inr on ↦ subst (All (IsFree c)) (sym (slice_split-cons_no (λ b. b == c) b bs on)) (onto_free c b (slice_split (λ b. b == c) bs) on (pieces_free c bs))
     ]
+
+-- the line of fields that begin with a letter
+abbrev pub line_of : List (List ℕ) → List ℕ
+line_of [] = []
+line_of (letter ∷ row) = line letter row
 
 -- the line of fields, joined by commas
 line_joined : (fs : List (List ℕ)) → line_of fs ≡ join_with_byte 44 fs

@@ -5,9 +5,10 @@ use Rattle.intake.specs.declared.draft.PartialRound.{PartialRound}
 use Rattle.intake.specs.declared.public_parts.PublicParts.{PublicParts}
 use Rattle.intake.specs.Inside.Posting.{ArePostedProjects, ArePostedStudents, ArePostedSupervisors}
 use Rattle.intake.proofs.Order.{get_found}
-use Rattle.intake.proofs.Prices.{filled_lines, zeros_price}
+use Rattle.intake.proofs.Prices.{filled_lines, first_prices, zeros_price}
 use Rattle.intake.proofs.RestOfText.{named_projects, named_supervisors}
 use Rattle.intake.proofs.Rolls.{project_keys, supervisor_keys, standing, within_get}
+use Rattle.intake.proofs.Where.{first_few}
 
 -- one entry more of a roll, where those before are the same
 pub posted_more : {E X Y : Type 0} (named : List (List ℕ) → List X → List Y) (one : List ℕ → X → Y) (of : E → Y)
@@ -151,10 +152,10 @@ projects_count known roll codes offers p = sym (ap length (named_projects known 
 
 -- there are no more prices than these
 pub supervisor_prices_few : (d : PartialRound) → IsDraft Public (draft_of d) → length d.prices.supervisors.items ≤ length d.supervisors.items
-supervisor_prices_few d draft = omega (arith, draft.prices.2.2.0.prices.few, ap length (supervisor_keys d.supervisors.items), length-map d.supervisors.items (λ e. e.0))
+supervisor_prices_few d draft = omega (arith, first_few (λ c. IsPrice) _ _ draft.prices.2.2.0, ap length (supervisor_keys d.supervisors.items), length-map d.supervisors.items (λ e. e.0))
 
 pub project_prices_few : (d : PartialRound) → IsDraft Public (draft_of d) → length d.prices.projects.items ≤ length d.projects.items
-project_prices_few d draft = omega (arith, draft.prices.2.0.prices.few, ap length (project_keys d.projects.items), length-map d.projects.items (λ e. e.0))
+project_prices_few d draft = omega (arith, first_few (λ c. IsPrice) _ _ draft.prices.2.0, ap length (project_keys d.projects.items), length-map d.projects.items (λ e. e.0))
 
 -- the supervisors of the projects that were read are known
 pub offered_read : (d : PartialRound) → IsDraft Public (draft_of d) → (ss : List (List ℕ × ℕ)) (ps : List (List ℕ × List ℕ × ℕ)) → ss ≡ d.supervisors.items → ps ≡ d.projects.items → All (λ e. Contains (map (λ e. e.0) ss) e.1) ps
@@ -246,8 +247,8 @@ made_parts d r draft m =
     let ps : length r.projects.items ≡ length d.projects.items = ap length (projects_made d r m) ∙ length-map d.projects.items (λ e. e.0) in
     let supervisors : length (map (λ e. e.code) (draft_of d).instance.supervisors) ≡ length r.supervisors.items = ap length (supervisor_keys d.supervisors.items ∙ sym (supervisors_made d r m)) in
     let projects : length (map (λ e. e.code) (draft_of d).instance.projects) ≡ length r.projects.items = ap length (project_keys d.projects.items ∙ sym (projects_made d r m)) in
-    let ys = filled_range d.prices.projects.items r.posted.project_prices.items _ _ draft.prices.2.0.prices projects m.project_prices in
-    let zs = filled_range d.prices.supervisors.items r.posted.supervisor_prices.items _ _ draft.prices.2.2.0.prices supervisors m.supervisor_prices in
+    let ys = filled_range d.prices.projects.items r.posted.project_prices.items _ _ (first_prices _ _ draft.prices.2.0) projects m.project_prices in
+    let zs = filled_range d.prices.supervisors.items r.posted.supervisor_prices.items _ _ (first_prices _ _ draft.prices.2.2.0) supervisors m.supervisor_prices in
     let valid : IsInstance Public (public_read r).instance = subst (IsInstance Public) (sym i) draft.instance in
     let limits = valid.within in
     let named_ss = ap length (named_supervisors r.supervisors.items r.posted.supervisors.items m.supervisors.one_each) in

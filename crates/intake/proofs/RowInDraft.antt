@@ -1,6 +1,6 @@
 -- What a row adds to a draft.
-use Rattle.std.proofs.Common.{◌≡◌, ℕ, ◌<◌, ◌≤◌, ℤ, Bool, List, [], ◌∷◌, ◌++◌, length, map, get_or, Option, refl, ap, ◌∙◌, subst, arith}
-use Rattle.intake.proofs.Common.{Bor, map_push, Aim, Kind, Instance, Supervisor, Project, Student, given, supervisors_of, projects_of, students_of, Parts, Supervisors, Projects, Students, AddsPrice, with_entry}
+use Rattle.std.proofs.Common.{◌≡◌, ℕ, ◌<◌, ◌≤◌, ℤ, Bool, true, false, List, [], ◌∷◌, ◌++◌, length, map, get_or, Option, refl, ap, ◌∙◌, subst, arith}
+use Rattle.intake.proofs.Common.{Bor, map_push, Aim, Kind, Instance, Supervisor, Project, Student, given, supervisors_of, projects_of, students_of, Parts, Supervisors, Projects, Students, AddsOne, AddsPrice, with_entry}
 use Rattle.intake.proofs.Lists.{blank}
 
 -- one field
@@ -52,3 +52,8 @@ student_added aim ss ps ts new ks u y z code list e =
 -- a price that was added, said of the same codes
 pub price_moved : (k : Kind) (a b : List (List ℕ)) (old : List (List ℤ)) (row : List (List ℕ)) (new : List (List ℤ)) (r : Bool) → a ≡ b → AddsPrice k a old row new r → AddsPrice k b old row new r
 price_moved k a b old row new r e h = subst (λ (l : List (List ℕ)). AddsPrice k l old row new r) e h
+
+-- what was added to a part was added to the whole
+pub adds_put : {E A B : Type 0} (May : E → Type 0) (more : E → A) (new : A) (put : A → B) (b : Bool) → AddsOne May more new b → AddsOne May (λ e. put (more e)) (put new) b
+adds_put May more new put true h = (h.0, h.1, ap put h.2)
+adds_put May more new put false h = h

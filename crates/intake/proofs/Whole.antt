@@ -4,7 +4,7 @@ use Rattle.intake.proofs.Common.{IsTrue, AllPairs, AllZip, length-map, get_or_de
 use Rattle.intake.proofs.Found.{slice_get_at}
 use Rattle.intake.proofs.PairLine.{get_mapped}
 use Rattle.intake.proofs.Rolls.{contained}
-use Rattle.intake.proofs.Unique.{one_listed}
+use Rattle.intake.proofs.One.{one_listed}
 use Rattle.intake.proofs.RestOfText.{named_supervisors, named_projects, named_students}
 
 -- the quotas of supervisors by codes

@@ -1,14 +1,15 @@
 //! The parts of a text as far as it was read.
 #![tactic(auto)]
 
-ghost use Rattle.std.specs.Prelude.{◌≡◌, true, ◌<◌, ◌-◌, ◌++◌, ◌↔◌, ◌≤◌, ℕ, ℤ, List, [], ◌∷◌, map, length, replicate, All, IfOk, OnOk, MatchOption, IsTrue, None};
+ghost use Rattle.std.specs.Prelude.{◌≡◌, ◌==◌, true, ◌<◌, ◌-◌, ◌++◌, ◌↔◌, ◌≤◌, ℕ, ℤ, List, [], ◌∷◌, map, length, replicate, All, IfOk, OnOk, MatchOption, IsTrue, None};
+ghost use Rattle.std.specs.List.{slice_split};
 ghost use Rattle.spa.specs.declared.TheConstants.{RANKS};
 ghost use Rattle.spa.specs.Instance.{supervisor_codes, student_codes, project_codes};
 ghost use Rattle.intake.specs.declared.section.Kind.TheVariants.{Round};
 ghost use Rattle.intake.specs.Parts.{IsListOf, IsRoll, IsRoundParts};
 ghost use Rattle.intake.specs.declared.section.SectionName.TheVariants.{Aims, Supervisors, Projects, Students, Pairs};
-ghost use Rattle.intake.specs.Inside.PartialRound.{draft_of, IsDraft, HasLine, HasNoPrices, IsCompleted, NoneOrAll, IsField, nothing, IsWhole};
-ghost use Rattle.intake.specs.Inside.Entries.{AddsEntry, AddsPrice, AddsLine, AddsOne, HasNoPairs, HasNoProjects, HasNoStudents, MayComeNext, NextAim, NextPair, NextProject, NextSupervisor, StandsAfter, line_of, with_entry, zeros};
+ghost use Rattle.intake.specs.Inside.PartialRound.{draft_of, IsDraft, HasLine, HasNoPrices, IsCompleted, NoneOrAll, nothing, IsWhole};
+ghost use Rattle.intake.specs.Inside.Entries.{AddsEntry, AddsPrice, AddsLine, AddsOne, HasNoPairs, HasNoProjects, HasNoStudents, MayComeNext, NextAim, NextPair, NextProject, NextSupervisor, StandsAfter, with_entry, zeros};
 ghost use Rattle.intake.specs.Lines.{is_zero_price, lines_of};
 ghost use Rattle.intake.specs.View.{parts_read};
 
@@ -320,7 +321,7 @@ impl PartialRound {
     fn add_pair(&mut self, fields: &[&[u8]]) -> Result<bool, AllocError>
         requires students { IsRoll (student_codes (draft_of self.old).instance) }
         requires lists { All (λ e. length e.list ≤ RANKS) (draft_of self.old).instance.students }
-        ensures { IfOk result (λ b. AddsOne (λ e. NextPair (draft_of self.old) (map (λ f. f.now) fields.now) e.0 e.1) (with_entry Pairs (draft_of self.old)) (draft_of self.new) b) }
+        ensures { IfOk result (λ b. AddsOne (NextPair (draft_of self.old) (map (λ f. f.now) fields.now)) (with_entry Pairs (draft_of self.old)) (draft_of self.new) b) }
     {
         let [student, project] = fields else {
             return Ok(false);
@@ -376,9 +377,8 @@ impl PartialRound {
 
     /// Adds what a line's fields stand for, if they may come here.
     fn add(&mut self, kind: Kind, alloc: Global, fields: &[&[u8]]) -> Result<bool, AllocError>
-        requires draft { IsDraft kind (draft_of self.old) }
-        requires fields { All IsField (map (λ f. f.now) fields.now) }
-        ensures { IfOk result (λ b. AddsLine kind (draft_of self.old) (line_of (map (λ f. f.now) fields.now)) (draft_of self.new) b) }
+        requires { IsDraft kind (draft_of self.old) }
+        ensures { IfOk result (λ b. AddsLine kind (draft_of self.old) (map (λ f. f.now) fields.now) (draft_of self.new) b) }
     {
         let Some((letter, row)) = fields.split_first() else {
             return Ok(false);
@@ -400,7 +400,7 @@ impl PartialRound {
         line: &[u8],
     ) -> Result<bool, AllocError>
         requires { IsDraft kind (draft_of self.old) }
-        ensures { IfOk result (λ b. AddsLine kind (draft_of self.old) line.now (draft_of self.new) b) }
+        ensures { IfOk result (λ b. AddsLine kind (draft_of self.old) (slice_split (λ b. b == 44) line.now) (draft_of self.new) b) }
     {
         let fields = pieces(alloc, line, b',', COMPONENTS + 2)?;
         self.add(kind, alloc, &fields)

@@ -1,11 +1,11 @@
 -- The parts of a text as far as it was read.
-use Rattle.std.specs.Prelude.{◌≡◌, true, false, ◌==◌, ℕ, ◌≤◌, ◌⊎◌, ℤ, List, [], ◌∷◌, length, map, Option, IsSome, All, Result, Ok, Err, ⊤}
+use Rattle.std.specs.Prelude.{◌≡◌, true, false, ◌==◌, ℕ, ◌≤◌, ◌⊎◌, ℤ, List, [], ◌∷◌, length, map, Option, All, Result, Ok, Err, ⊤}
 use Rattle.spa.specs.declared.aim.Aim.TheVariants.{Greedy}
-use Rattle.spa.specs.Instance.{Student, given}
+use Rattle.spa.specs.Instance.{given}
 use Rattle.intake.specs.declared.draft.PartialRound.{PartialRound}
 use Rattle.intake.specs.declared.section.Kind.{Kind}
 use Rattle.intake.specs.declared.section.Kind.TheVariants.{Round, Public}
-use Rattle.intake.specs.Parts.{Parts, IsInstance, IsPlace, ArePricesUpTo}
+use Rattle.intake.specs.Parts.{Parts, IsInstance, IsPlace, IsPrice}
 use Rattle.intake.specs.declared.TheConstants.{MAX_BYTES}
 use Rattle.intake.specs.declared.round.RoundFault.{RoundFault}
 use Rattle.intake.specs.Lines.{Priced, has_line, priced, text_of}
@@ -22,26 +22,15 @@ draft_of d = record {
   supervisor_prices = d.prices.supervisors.items;
 }
 
--- places of the first students
-abbrev pub ArePlaces : List Student → List (Option ℕ) → Type 0
-ArePlaces es [] = ⊤
-ArePlaces [] (k ∷ ks) = ⊥
-ArePlaces (e ∷ es) (k ∷ ks) = IsPlace e k × ArePlaces es ks
-
--- a list is empty, or its last element is so
-abbrev pub Ends : {X : Type 0} → (X → Type 0) → List X → Type 0
-Ends P [] = ⊤
-Ends P (x ∷ []) = P x
-Ends P (x ∷ y ∷ xs) = Ends P (y ∷ xs)
+-- what the first entries have fits them
+abbrev pub AreFirst : {E X : Type 0} → (E → X → Type 0) → List E → List X → Type 0
+AreFirst Fits es [] = ⊤
+AreFirst Fits [] (x ∷ xs) = ⊥
+AreFirst Fits (e ∷ es) (x ∷ xs) = Fits e x × AreFirst Fits es xs
 
 -- a price has a line
 abbrev pub HasLine : Kind → List ℤ → Type 0
 HasLine k v = has_line k v ≡ true
-
--- prices of the first of n entries, the last with a line
-pub record AreFirstPrices (k : Kind) (n : ℕ) (vs : List (List ℤ)) : Type 0 where
-  pub prices : ArePricesUpTo n vs
-  pub last : Ends (HasLine k) vs
 
 -- no price, or one for each of n entries
 abbrev pub NoneOrAll : ℕ → List (List ℤ) → Type 0
@@ -65,7 +54,7 @@ AreComplete k (s ∷ ss) = IsCompleted k (length s.codes) s.prices × AreComplet
 -- the prices of each roll are those of its first entries, and complete where prices of a later roll were read
 abbrev pub ArePricedInOrder : Kind → List Priced → Type 0
 ArePricedInOrder k [] = ⊤
-ArePricedInOrder k (s ∷ ss) = AreFirstPrices k (length s.codes) s.prices × (AreUnpriced ss ⊎ IsCompleted k (length s.codes) s.prices) × ArePricedInOrder k ss
+ArePricedInOrder k (s ∷ ss) = AreFirst (λ c. IsPrice) s.codes s.prices × (AreUnpriced ss ⊎ IsCompleted k (length s.codes) s.prices) × ArePricedInOrder k ss
 
 -- no student of a result has a place or a price
 abbrev pub IsBare : Kind → List (Option ℕ) → List (List ℤ) → Type 0
@@ -75,8 +64,7 @@ IsBare Public places prices = (places ≡ []) × (prices ≡ [])
 -- parts that more lines may complete
 pub record IsDraft (k : Kind) (p : Parts) : Type 0 where
   pub instance : IsInstance k p.instance
-  pub places : ArePlaces p.instance.students p.places
-  pub last_place : Ends IsSome p.places
+  pub places : AreFirst IsPlace p.instance.students p.places
   pub prices : ArePricedInOrder k (priced p)
   pub bare : IsBare k p.places p.student_prices
 

@@ -1,6 +1,7 @@
 use Rattle.std.proofs.Common.{◌≡◌, ℕ, ◌-◌, ◌<◌, Bool, List, length, take, sym, ap, subst, ◌∙◌, arith}
-use Rattle.intake.proofs.Common.{Bor, length-map, err_from_is_err_and, lines_of, pieces, draft_of, AddsLine}
-use Rattle.intake.proofs.Bad.{some_piece, piece_at, line_more, bad_line, bad_end, good_text}
+use Rattle.intake.proofs.Common.{Bor, length-map, err_from_is_err_and, pieces, draft_of, AddsLine}
+use Rattle.intake.proofs.Bad.{IsRead, some_piece, piece_at, line_more, bad_line, bad_end, good_text, read_draft}
+use Rattle.intake.proofs.Sections.{fields_of}
 use Rattle.intake.proofs.read.read.Goals as goal
 
 pub overflow_sub-whole : goal.overflow_sub-whole
@@ -20,9 +21,9 @@ returns-then-not-branch c =
     let h : n < length c.in_ok-lines.lines.items = omega (arith, len, c.loop-n-test.true) in
     let many : length c.in_ok-lines.lines.items ≡ length (pieces c.args.text.now) = sym (length-map c.in_ok-lines.lines.items (λ (f : Bor (List ℕ)). f.now)) ∙ ap length c.in_ok-lines.ensures in (
       omega arith,
-      bad_line c.args.kind c.args.text.now n (draft_of c.loop-n.draft) c.index.result.now.now c.loop-n.invariant.draft c.loop-n.invariant.lines (omega (arith, many, len, c.loop-n-test.true))
+      bad_line c.args.kind c.args.text.now n (draft_of c.loop-n.draft) c.index.result.now.now c.loop-n.invariant (omega (arith, many, len, c.loop-n-test.true))
           (piece_at c.args.text.now c.in_ok-lines.lines.items n c.index.result.now c.in_ok-lines.ensures h c.index.ensures)
-          (subst (λ (b : Bool). AddsLine c.args.kind (draft_of c.loop-n.draft) c.index.result.now.now (draft_of c.add_line.new.self) b) c.if-not-branch.true c.in_ok-add_line.ensures),
+          (subst (λ (b : Bool). AddsLine c.args.kind (draft_of c.loop-n.draft) (fields_of c.index.result.now.now) (draft_of c.add_line.new.self) b) c.if-not-branch.true c.in_ok-add_line.ensures),
     )
 
 pub loop-n-preserved : goal.loop-n-preserved
@@ -31,12 +32,9 @@ loop-n-preserved c =
     let len : c.len-whole.result ≡ length c.in_ok-lines.lines.items = omega (arith, c.len-whole.ensures, c.in_ok-lines.lines.ok.0) in
     let h : n < length c.in_ok-lines.lines.items = omega (arith, len, c.loop-n-test.true) in
     let many : length c.in_ok-lines.lines.items ≡ length (pieces c.args.text.now) = sym (length-map c.in_ok-lines.lines.items (λ (f : Bor (List ℕ)). f.now)) ∙ ap length c.in_ok-lines.ensures in
-    let added = subst (λ (b : Bool). AddsLine c.args.kind (draft_of c.loop-n.draft) c.index.result.now.now (draft_of c.add_line.new.self) b) c.if-not-branch.false c.in_ok-add_line.ensures in
-    record {
-      draft = added.0;
-      lines = line_more c.args.text.now n (lines_of c.args.kind (draft_of c.loop-n.draft)) _ c.index.result.now.now (omega (arith, many))
-          (piece_at c.args.text.now c.in_ok-lines.lines.items n c.index.result.now c.in_ok-lines.ensures h c.index.ensures) c.loop-n.invariant.lines added.1;
-    }
+    let added = subst (λ (b : Bool). AddsLine c.args.kind (draft_of c.loop-n.draft) (fields_of c.index.result.now.now) (draft_of c.add_line.new.self) b) c.if-not-branch.false c.in_ok-add_line.ensures in
+    line_more c.args.kind c.args.text.now n (draft_of c.loop-n.draft) (draft_of c.add_line.new.self) c.index.result.now.now (omega (arith, many))
+    (piece_at c.args.text.now c.in_ok-lines.lines.items n c.index.result.now c.in_ok-lines.ensures h c.index.ensures) c.loop-n.invariant added
 
 pub returns-then-not-may_end : goal.returns-then-not-may_end
 returns-then-not-may_end c =
@@ -48,7 +46,7 @@ returns-then-not-may_end c =
     let exit : c.loop-n.n ≡ w = omega (arith, c.loop-n-test.false, c.loop-n.auto.n-end) in
     let last = piece_at c.args.text.now c.in_ok-lines.lines.items w c.index-2.result.now c.in_ok-lines.ensures (omega (arith, many, len, some)) c.index-2.ensures in (
       omega arith,
-      bad_end c.args.kind c.args.text.now c.len.result w (draft_of c.loop-n.draft) c.loop-n.invariant.draft (c.loop-n.invariant.lines ∙ ap (λ (n : ℕ). take n (pieces c.args.text.now)) exit) (omega (arith, many, len, some)) (omega (arith, again, many, len, some))
+      bad_end c.args.kind c.args.text.now c.len.result w (draft_of c.loop-n.draft) (subst (λ (n : ℕ). IsRead c.args.kind (take n (pieces c.args.text.now)) (draft_of c.loop-n.draft)) exit c.loop-n.invariant) (omega (arith, many, len, some)) (omega (arith, again, many, len, some))
           (λ e whole. let yes = c.may_end.ensures.1 (sym last ∙ e, whole) in let other = c.if-not-may_end.true in cc),
     )
 
@@ -61,9 +59,9 @@ returns c =
     let exit : c.loop-n.n ≡ w = omega (arith, c.loop-n-test.false, c.loop-n.auto.n-end) in
     let end = c.may_end.ensures.0 c.if-not-may_end.false in
     let last = piece_at c.args.text.now c.in_ok-lines.lines.items w c.index-2.result.now c.in_ok-lines.ensures (omega (arith, many, len, some)) c.index-2.ensures ∙ end.0 in (
-      c.loop-n.invariant.draft,
+      read_draft c.args.kind _ _ c.loop-n.invariant,
       end.1,
-      good_text c.args.text.now w _ (c.loop-n.invariant.lines ∙ ap (λ (n : ℕ). take n (pieces c.args.text.now)) exit) (omega (arith, many, len, some)) last,
+      good_text c.args.kind c.args.text.now w (draft_of c.loop-n.draft) (subst (λ (n : ℕ). IsRead c.args.kind (take n (pieces c.args.text.now)) (draft_of c.loop-n.draft)) exit c.loop-n.invariant) (omega (arith, many, len, some)) last,
       omega arith,
     )
 
@@ -80,7 +78,7 @@ pub index-requires : goal.index-requires
 index-requires c = omega (arith, c.loop-n-test.true, c.len-whole.ensures)
 
 pub add_line-requires : goal.add_line-requires
-add_line-requires c = c.loop-n.invariant.draft
+add_line-requires c = read_draft c.args.kind _ _ c.loop-n.invariant
 
 pub loop-n-smaller : goal.loop-n-smaller
 loop-n-smaller c = omega (arith, c.loop-n-test.true)

@@ -22,7 +22,7 @@ returns-in_default-position_at c = λ e t.
     let row : (get_or c.args.fields.now 0 blank).now ∷ (get_or c.args.fields.now 1 blank).now ∷ (get_or c.args.fields.now 2 blank).now ∷ [] ≡ e.code ∷ e.supervisor ∷ decimal e.quota ∷ [] = sym (three_fields c.args.fields.now c.in-len3.len_at_least c.in-len3.len_below) ∙ t.is in
     let second : (get_or c.args.fields.now 1 blank).now ≡ e.supervisor = cc in
     let keys = supervisor_keys c.args.self.now.supervisors.items ∙ ap (map (λ e. e.0)) (sym c.deref-2.ensures.value) in
-    let at = standing (map (λ e. e.code) (supervisors_of c.args.self.now.supervisors.items)) e.supervisor t.known in
+    let at = standing (map (λ e. e.code) (supervisors_of c.args.self.now.supervisors.items)) e.supervisor t.fits.0 in
     nowhere (map (λ e. e.0) c.deref-2.result.now) (length c.deref-2.result.now) at.0 (get_or c.args.fields.now 1 blank).now e.supervisor (sym (length-map c.deref-2.result.now (λ e. e.0))) second c.in_default-position_at.ensures
     (ap (λ (l : List (List ℕ)). slice_get l at.0) (sym keys) ∙ at.2)
 
@@ -43,8 +43,7 @@ returns c =
             ∙ ap (λ (x : List ℕ). c.in-Some.code ∷ x ∷ (get_or c.args.fields.now 2 blank).now ∷ []) (sym supervisor)
             ∙ ap (λ (x : List ℕ). c.in-Some.code ∷ c.copy-supervisor.result ∷ x ∷ []) c.in-Some-read_quota.ensures.1;
         code = comes_moved _ _ _ _ _ keys (sym read.0) read.1;
-        quota = c.in-Some-read_quota.ensures.0;
-        known = contained _ owner c.copy-supervisor.result (at ∙ ap Some (sym supervisor));
+        fits = (contained _ owner c.copy-supervisor.result (at ∙ ap Some (sym supervisor)), c.in-Some-read_quota.ensures.0);
       },
       project_added _ c.args.self.now.supervisors.items c.args.self.now.projects.items c.push.new.self.items (map (λ e. (e.0, e.1.items)) c.args.self.now.students.items) c.args.self.now.places.items _ _ _ c.in-Some.code c.copy-supervisor.result c.in-Some-read_quota.quota c.in_ok-push.ensures.items,
     )
@@ -56,7 +55,7 @@ pub returns-in_default-read_quota : goal.returns-in_default-read_quota
 returns-in_default-read_quota c = λ e t.
     let row : (get_or c.args.fields.now 0 blank).now ∷ (get_or c.args.fields.now 1 blank).now ∷ (get_or c.args.fields.now 2 blank).now ∷ [] ≡ e.code ∷ e.supervisor ∷ decimal e.quota ∷ [] = sym (three_fields c.args.fields.now c.in-len3.len_at_least c.in-len3.len_below) ∙ t.is in
     let third : (get_or c.args.fields.now 2 blank).now ≡ decimal e.quota = cc in
-    c.in_default-read_quota.ensures e.quota t.quota third
+    c.in_default-read_quota.ensures e.quota t.fits.1 third
 
 pub guess-guess-requires : goal.guess-guess-requires
 guess-guess-requires c = tt

@@ -23,7 +23,7 @@ returns-in_default-2 c = λ e t.
     let rest : map (λ (f : Bor (List ℕ)). f.now) c.in-Some.list.now ≡ e.list = other_fields _ _ _ _ (sym fields ∙ t.is) in
     let keys = project_keys c.args.self.now.projects.items ∙ ap (map (λ e. e.0)) (sym c.deref-2.ensures.value) in
     let refused = rw c.in_default-2.is at c.in_ok-list.ensures in
-    refused (sound_moved _ _ _ _ _ keys (sym rest) t.list)
+    refused (sound_moved _ _ _ _ _ keys (sym rest) t.fits)
 
 pub returns : goal.returns
 returns c =
@@ -36,7 +36,7 @@ returns c =
       record {
         is = fields ∙ ap (λ (x : List ℕ). x ∷ map (λ (f : Bor (List ℕ)). f.now) c.in-Some.list.now) (sym next.0) ∙ ap (λ (l : List (List ℕ)). c.in-Some-next_code.code ∷ l) (sym read.0);
         code = comes_moved _ _ _ _ _ keys (sym next.0) next.1;
-        list = sound_moved _ _ _ _ _ owners (sym read.0) read.1;
+        fits = sound_moved _ _ _ _ _ owners (sym read.0) read.1;
       },
       student_added _ c.args.self.now.supervisors.items c.args.self.now.projects.items (map (λ e. (e.0, e.1.items)) c.args.self.now.students.items) (map (λ e. (e.0, e.1.items)) c.push.new.self.items) c.args.self.now.places.items _ _ _ c.in-Some-next_code.code c.in-Some-2.list.items
           (ap (map (λ e. (e.0, e.1.items))) c.in_ok-push.ensures.items ∙ map_push (λ e. (e.0, e.1.items)) c.args.self.now.students.items (c.in-Some-next_code.code, c.in-Some-2.list)),

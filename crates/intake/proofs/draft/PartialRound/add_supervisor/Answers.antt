@@ -23,7 +23,7 @@ returns c =
       record {
         is = two_fields c.args.fields.now c.in-len2.len_at_least c.in-len2.len_below ∙ ap (λ (x : List ℕ). x ∷ (get_or c.args.fields.now 1 blank).now ∷ []) (sym read.0) ∙ ap (λ (x : List ℕ). c.in-Some.code ∷ x ∷ []) c.in-Some-read_quota.ensures.1;
         code = comes_moved _ _ _ _ _ keys (sym read.0) read.1;
-        quota = c.in-Some-read_quota.ensures.0;
+        fits = c.in-Some-read_quota.ensures.0;
       },
       supervisor_added _ c.args.self.now.supervisors.items c.push.new.self.items c.args.self.now.projects.items (map (λ e. (e.0, e.1.items)) c.args.self.now.students.items) c.args.self.now.places.items _ _ _ c.in-Some.code c.in-Some-read_quota.quota c.in_ok-push.ensures.items,
     )
@@ -35,7 +35,7 @@ pub returns-in_default-read_quota : goal.returns-in_default-read_quota
 returns-in_default-read_quota c = λ e t.
     let row : (get_or c.args.fields.now 0 blank).now ∷ (get_or c.args.fields.now 1 blank).now ∷ [] ≡ e.code ∷ decimal e.quota ∷ [] = sym (two_fields c.args.fields.now c.in-len2.len_at_least c.in-len2.len_below) ∙ t.is in
     let second : (get_or c.args.fields.now 1 blank).now ≡ decimal e.quota = cc in
-    c.in_default-read_quota.ensures e.quota t.quota second
+    c.in_default-read_quota.ensures e.quota t.fits second
 
 pub as_str-requires : goal.as_str-requires
 as_str-requires c = tt

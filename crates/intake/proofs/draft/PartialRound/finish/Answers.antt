@@ -1,14 +1,14 @@
 use Rattle.std.proofs.Common.{◌≡◌, ℕ, ◌++◌, ◌-◌, length, replicate, None, sym, ap, subst, ◌∙◌, arith, rules}
-use Rattle.intake.proofs.Common.{IsRoundParts, Round, lines_of, draft_of}
+use Rattle.intake.proofs.Common.{IsPlace, IsRoundParts, Round, lines_of, draft_of}
 use Rattle.intake.proofs.Rolls.{student_count}
 use Rattle.intake.proofs.Ends.{whole_parts, no_fault, placed_lines, same_parts}
-use Rattle.intake.proofs.Takes.{places_few}
+use Rattle.intake.proofs.Where.{first_few}
 use Rattle.intake.proofs.draft.PartialRound.finish.Goals as goal
 
 pub fill-requires : goal.fill-requires
 fill-requires c =
     let len : c.len.result ≡ length c.args.self.students.items = search (rules) in
-    omega (arith, len, places_few _ _ c.requires.draft.places, student_count c.args.self.students.items)
+    omega (arith, len, first_few IsPlace _ _ c.requires.draft.places, student_count c.args.self.students.items)
 
 pub unreachable-requires : goal.unreachable-requires
 unreachable-requires c = c.in_default.not-Memory (no_fault _ c.in-Err.fault c.requires.draft c.in-Err.ensures.fault)

@@ -1,9 +1,9 @@
--- A line that goes on is one that the draft takes.
-use Rattle.std.proofs.Common.{◌≡◌, ℕ, suc, ◌+◌, ◌<◌, ◌≤◌, ◌^◌, ◌%◌, ℤ, pos, negsuc, Bool, true, false, List, [], ◌∷◌, ◌++◌, map, get_or, codes, decimal, All, refl, sym, ap, ◌∙◌, subst, arith, append_assoc}
-use Rattle.intake.proofs.Common.{signed_decimal, list_all, ◌==◌, nat_le, first_so, second_so, ne_eqb, nat_tests, decimal_by_steps, map-append, All-nil, All-cons, All-push, is_code, is_code_byte, InRange, Kind, Round, Public, Parts, IsPrice, IsInstance, ArePartsOf, Row, Section, line, sections, student_letter, lines_of, BeginsLines, IsDraft, IsField, IsFree, code_bytes}
+-- A comma or an LF stands in no field.
+use Rattle.std.proofs.Common.{◌≡◌, ℕ, suc, ◌+◌, ◌<◌, ◌≤◌, ◌^◌, ◌%◌, ℤ, pos, negsuc, Bool, true, false, List, [], ◌∷◌, get_or, codes, decimal, All, refl, sym, subst, arith}
+use Rattle.intake.proofs.Common.{signed_decimal, list_all, ◌==◌, nat_le, first_so, second_so, ne_eqb, nat_tests, decimal_by_steps, All-nil, All-cons, All-push, is_code, is_code_byte, InRange, Kind, Round, Public, Parts, IsPrice, IsInstance, ArePartsOf, Section, sections, student_letter, IsFree, code_bytes}
 use Rattle.intake.proofs.Widths.{Said, OfRows, OfLetters, widths, rows_said}
 use Rattle.intake.proofs.Numbers.{small}
-use Rattle.intake.proofs.Sections.{are_apart, fields_of, fields_back, full, Plain, sections_back, Next, next_section, SameRows, same_rows}
+use Rattle.intake.proofs.Sections.{Plain}
 
 -- a byte of a code is at least a dash
 code_byte_high : (b : ℕ) → is_code_byte b ≡ true → 45 ≤ b
@@ -81,45 +81,3 @@ module _ (c : ℕ) (low : c < 45) where
   pub parts_plain : (k : Kind) (p : Parts) → ArePartsOf k p → Plain c (sections k p)
   parts_plain Round p v = sections_plain Round p v.instance v.student_prices.prices v.project_prices.prices v.supervisor_prices.prices
   parts_plain Public p v = sections_plain Public p v.instance (subst (All IsPrice) (sym v.student_prices) (All-nil IsPrice)) v.project_prices.prices v.supervisor_prices.prices
-
--- the instance in them
-pub parts_instance : (k : Kind) (p : Parts) → ArePartsOf k p → IsInstance k p.instance
-parts_instance Round p v = v.instance
-parts_instance Public p v = v.instance
-
--- the letters of the sections are distinct
-pub letters_apart : (k : Kind) (p : Parts) → are_apart (sections k p) ≡ true
-letters_apart Round p = refl
-letters_apart Public p = refl
-
--- the fields of the lines of a draft
-draft_back : (k : Kind) (p : Parts) → IsDraft k p → map fields_of (lines_of k p) ≡ full (sections k p)
-draft_back k p d = sections_back (sections k p) (sections_plain 44 (omega arith) k p d.instance d.prices.0.prices.prices d.prices.2.0.prices.prices d.prices.2.2.0.prices.prices)
-
--- the parts whose lines go on, and the section that the next row is in
-pub record GoesOn (k : Kind) (old : Parts) (l : List ℕ) (r : Row) : Type 0 where
-  pub parts : Parts
-  pub valid : ArePartsOf k parts
-  pub next : Next (sections k parts) (sections k old) l r
-
--- lines that go on
-pub goes_on : (k : Kind) (old : Parts) (l : List ℕ) (r : Row) → IsDraft k old → All IsField (l ∷ r) → BeginsLines k (lines_of k old ++ line l r ∷ []) → GoesOn k old l r
-goes_on k old l r d f b =
-    let p : Parts = b.0 in
-    let e : full (sections k p) ≡ full (sections k old) ++ (l ∷ r) ∷ map fields_of b.1 =
-    sym (sections_back (sections k p) (parts_plain 44 (omega arith) k p b.2))
-    ∙ ap (map fields_of) (b.3 ∙ append_assoc (lines_of k old) (line l r ∷ []) b.1)
-    ∙ map-append fields_of (lines_of k old) (line l r ∷ b.1)
-    ∙ ap (λ (fs : List (List (List ℕ))). fs ++ fields_of (line l r) ∷ map fields_of b.1) (draft_back k old d)
-    ∙ ap (λ (fs : List (List ℕ)). full (sections k old) ++ fs ∷ map fields_of b.1) (fields_back l r f) in
-    record {
-      parts = p;
-      valid = b.2;
-      next = next_section (sections k p) (sections k old) l r (map fields_of b.1) e (refl, (refl, (refl, (refl, (refl, (refl, (refl, (refl, tt)))))))) (letters_apart k p) (letters_apart k old);
-    }
-
--- parts whose lines are those of a draft have its rows
-pub rows_alike : (k : Kind) (old p : Parts) → IsDraft k old → ArePartsOf k p → lines_of k p ≡ lines_of k old → SameRows (sections k p) (sections k old)
-rows_alike k old p d v h =
-    same_rows (sections k p) (sections k old) (sym (sections_back (sections k p) (parts_plain 44 (omega arith) k p v)) ∙ ap (map fields_of) h ∙ draft_back k old d)
-    (refl, (refl, (refl, (refl, (refl, (refl, (refl, (refl, tt)))))))) (letters_apart k p) (letters_apart k old)
