@@ -1,6 +1,6 @@
 -- A list of projects, read field by field.
-use Rattle.std.proofs.Common.{◌≡◌, ◌≢◌, ℕ, zero, suc, ◌+◌, ◌<◌, Bool, true, false, not, List, [], ◌∷◌, ◌++◌, length, map, get_or, take, slice_get, Option, Some, None, refl, sym, ap, ◌∙◌, arith}
-use Rattle.intake.proofs.Common.{Bor, take_more, length-take-le, length-map, map-append, bytes_eq, not_from_Decides, bytes_eq-Decides, Finds, IsSoundUpTo, IsListOf, Kind, Rise}
+use Rattle.std.proofs.Common.{◌≡◌, ◌≢◌, ℕ, zero, suc, ◌+◌, ◌<◌, List, [], ◌∷◌, ◌++◌, length, map, get_or, take, slice_get, Option, Some, None, refl, sym, ap, ◌∙◌, arith}
+use Rattle.intake.proofs.Common.{Bor, take_more, length-take-le, length-map, map-append, Finds, IsSoundUpTo, IsListOf, Kind, Rise}
 use Rattle.intake.proofs.Order.{get_found}
 use Rattle.intake.proofs.PairLine.{one_place}
 use Rattle.intake.proofs.Rolls.{known_more, apart_more, contained, standing}
@@ -76,22 +76,6 @@ fresh_code codes ps seen p code rise e found fresh q h same =
     let many : length ps ≡ length seen = sym (length-map ps (slice_get codes)) ∙ ap length e ∙ length-map seen Some in
     let within : q < length ps = omega (arith, many, h) in
     fresh q within (one_place codes (get_or ps q 0) p code rise (sym (at_position codes ps seen q e within) ∙ same) found)
-
--- texts that test as different are
-pub differs : (a b : List ℕ) → not (bytes_eq a b) ≡ true → a ≡ b → ⊥
-differs a b h = not_from_Decides (bytes_eq a b) (bytes_eq-Decides a b) (flip (bytes_eq a b) h)
-  where
-    flip : (x : Bool) → not x ≡ true → x ≡ false
-    flip true h = cc
-    flip false h = refl
-
--- and texts that do not are the same
-pub agrees : (a b : List ℕ) → not (bytes_eq a b) ≡ false → a ≡ b
-agrees a b h = (bytes_eq-Decides a b).0 (flip (bytes_eq a b) h)
-  where
-    flip : (x : Bool) → not x ≡ false → x ≡ true
-    flip true h = refl
-    flip false h = cc
 
 -- the first fields of two rows that are the same
 pub first_field : (a b : List ℕ) (xs ys : List (List ℕ)) → a ∷ xs ≡ b ∷ ys → a ≡ b

@@ -1,6 +1,6 @@
 -- What is left to write.
-use Rattle.std.proofs.Common.{◌≡◌, ℕ, suc, Bool, false, cond, ◌+◌, ◌-◌, ◌<◌, ◌≤◌, ℤ, List, [], ◌∷◌, ◌++◌, length, get_or, map, drop, codes, Option, Some, None, flat_map, refl, sym, ap, ◌∙◌, subst, inl, inr, decimal, arith, append_assoc, append-nil, add-one, drop-cons}
-use Rattle.intake.proofs.Common.{signed_decimal, cases_lt, get_or-map, drop_all, Aim, IsPlaceOf, choice_at, code_at, flat_map-append, supervisor_codes, project_codes, student_codes, Named, IsFit, instance_of, supervisors_named, projects_named, students_named, Prices, proved, sections, instance_text, round_text, line, ended, section_lines, aim_rows, supervisor_row, project_row, student_row, pair_rows, price_rows, Kind, Round, Public, Project, Row, Student, HasLine, has_line, pair_row, posted_parts, price_row, public_text, row_before, assigned_list}
+use Rattle.std.proofs.Common.{◌≡◌, ℕ, suc, Bool, false, cond, ◌+◌, ◌-◌, ◌<◌, ℤ, List, [], ◌∷◌, ◌++◌, length, get_or, map, drop, codes, Option, Some, None, flat_map, refl, sym, ap, ◌∙◌, subst, inl, inr, arith, append_assoc, append-nil, add-one, drop-cons}
+use Rattle.intake.proofs.Common.{signed_decimal, cases_lt, get_or-map, Aim, IsPlaceOf, choice_at, code_at, flat_map-append, supervisor_codes, project_codes, student_codes, Named, IsFit, instance_of, supervisors_named, projects_named, students_named, Prices, proved, sections, instance_text, round_text, line, ended, section_lines, aim_rows, supervisor_row, project_row, student_row, pair_rows, price_rows, Kind, Round, Public, Project, Row, Student, HasLine, has_line, pair_row, posted_parts, price_row, public_text, row_before, assigned_list}
 use Rattle.public_result.specs.declared.posted.Posted.{Posted}
 use Rattle.intake.proofs.Where.{no_rows}
 
@@ -72,27 +72,6 @@ first_price k letter cs vs n h i =
     ap (λ (x : List (List ℕ)). price_text k letter x (drop n vs)) (drop-cons cs n [] h ∙ ap (λ (m : ℕ). get_or cs n [] ∷ drop m cs) one)
     ∙ ap (λ (x : List (List ℤ)). price_text k letter (get_or cs n [] ∷ drop (n + 1) cs) x) (drop-cons vs n [] i ∙ ap (λ (m : ℕ). get_or vs n [] ∷ drop m vs) one)
 
--- the next project's line
-pub next_project : (supervisors cs : List (List ℕ)) (ps : List (ℕ × ℕ)) (p : ℕ) (code supervisor : List ℕ) (quota : ℕ) → p < length cs → p < length ps
-    → get_or cs p [] ≡ code → code_at supervisors (get_or ps p (0, 0)).0 ≡ supervisor → (get_or ps p (0, 0)).1 ≡ quota
-    → project_text supervisors (drop p cs) (drop p ps) ≡ (line (codes "P") (code ∷ supervisor ∷ decimal quota ∷ []) ++ 10 ∷ []) ++ project_text supervisors (drop (p + 1) cs) (drop (p + 1) ps)
-next_project supervisors cs ps p code supervisor quota h i code_is supervisor_is quota_is = rw (drop-cons cs p [], drop-cons ps p (0, 0), code_is, supervisor_is, quota_is) (simp add-one)
-
--- after the last project's line nothing is left to write
-pub last_project : (supervisors cs : List (List ℕ)) (ps : List (ℕ × ℕ)) (p : ℕ) (out whole : List ℕ) → length cs ≤ p → out ++ project_text supervisors (drop p cs) (drop p ps) ≡ whole → out ≡ whole
-last_project supervisors cs ps p out whole past h =
-    sym (append-nil out) ∙ subst (λ (t : List (List ℕ)). out ++ project_text supervisors t (drop p ps) ≡ whole) (drop_all p cs past) h
-
--- the next student's line
-pub next_student : (projects cs lists : List (List ℕ)) (s : ℕ) (code list : List ℕ) → s < length cs → s < length lists → get_or cs s [] ≡ code → get_or lists s [] ≡ list
-    → student_text projects (drop s cs) (drop s lists) ≡ (line (codes "C") (code ∷ map (code_at projects) list) ++ 10 ∷ []) ++ student_text projects (drop (s + 1) cs) (drop (s + 1) lists)
-next_student projects cs lists s code list h i code_is list_is = rw (drop-cons cs s [], drop-cons lists s [], code_is, list_is) (simp add-one)
-
--- after the last student's line nothing is left to write
-pub last_student : (projects cs lists : List (List ℕ)) (s : ℕ) (out whole : List ℕ) → length cs ≤ s → out ++ student_text projects (drop s cs) (drop s lists) ≡ whole → out ≡ whole
-last_student projects cs lists s out whole past h =
-    sym (append-nil out) ∙ subst (λ (t : List (List ℕ)). out ++ student_text projects t (drop s lists) ≡ whole) (drop_all s cs past) h
-
 -- the next line of prices
 pub next_price : (k : Kind) (letter : List ℕ) (cs : List (List ℕ)) (vs : List (List ℤ)) (n : ℕ) (code : List ℕ) (v : List ℤ) → n < length cs → n < length vs → get_or cs n [] ≡ code → get_or vs n [] ≡ v → HasLine k v
     → price_text k letter (drop n cs) (drop n vs) ≡ (line letter (code ∷ map signed_decimal v) ++ 10 ∷ []) ++ price_text k letter (drop (n + 1) cs) (drop (n + 1) vs)
@@ -108,11 +87,6 @@ pub no_price : (k : Kind) (letter : List ℕ) (cs : List (List ℕ)) (vs : List 
 no_price k letter cs vs n h i e =
     first_price k letter cs vs n h i
     ∙ ap (λ (b : Bool). ended (map (line letter) (row_before (cond b (let o : Option Row = Some (get_or cs n [] ∷ map signed_decimal (get_or vs n [])) in o) None) (price_rows k (drop (n + 1) cs) (drop (n + 1) vs))))) e
-
--- after the last line of prices nothing is left to write
-pub last_price : (k : Kind) (letter : List ℕ) (cs : List (List ℕ)) (vs : List (List ℤ)) (n : ℕ) (out whole : List ℕ) → length cs ≤ n → out ++ price_text k letter (drop n cs) (drop n vs) ≡ whole → out ≡ whole
-last_price k letter cs vs n out whole past h =
-    sym (append-nil out) ∙ subst (λ (t : List (List ℕ)). out ++ price_text k letter t (drop n vs) ≡ whole) (drop_all n cs past) h
 
 -- what holds of the first n elements, and of one more
 pub one_more : {X : Type 0} (P : X → Type 0) (xs : List X) (n : ℕ) → ((k : ℕ) (d : X) → k < n → P (get_or xs k d)) → ((d : X) → P (get_or xs n d))

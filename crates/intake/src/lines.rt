@@ -19,13 +19,15 @@ pub(crate) fn push_supervisor(out: &mut String, code: &str, quota: u32) -> Resul
 /// Appends a project's line.
 pub(crate) fn push_project(
     out: &mut String,
+    supervisors: &[Code],
     code: &str,
-    supervisor: &str,
-    quota: u32,
+    project: (usize, u32),
 ) -> Result<(), AllocError>
-    ensures { OnOk result (string_bytes out.new ≡ string_bytes out.old ++ ended (line (codes "P") (code.now ∷ supervisor.now ∷ decimal quota ∷ []) ∷ [])) }
+    requires { project.0 < length supervisors.now }
+    ensures { OnOk result (string_bytes out.new ≡ string_bytes out.old ++ ended (line (codes "P") (code.now ∷ code_at supervisors.now project.0 ∷ decimal project.1 ∷ []) ∷ [])) }
 {
-    writeln!(out, "P,{code},{supervisor},{quota}")
+    let (owner, quota) = project;
+    writeln!(out, "P,{code},{},{quota}", supervisors[owner].as_str())
 }
 
 /// Appends a pair's line.

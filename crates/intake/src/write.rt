@@ -61,8 +61,7 @@ pub(crate) fn write_projects(
     ensures form { OnOk result (All (λ c. IsTrue (is_code c)) roll.now) }
 {
     for p in 0..roll.len() {
-        let (owner, quota) = projects[p];
-        push_project(out, roll[p].as_str(), supervisors[owner].as_str(), quota)?;
+        push_project(out, supervisors, roll[p].as_str(), projects[p])?;
     }
     Ok(())
 }

@@ -1,16 +1,10 @@
-use Rattle.std.proofs.Common.{◌≡◌, ℕ, ℤ, List, [], ◌∷◌, ◌++◌, length, map, Some, sym, ap, subst, ◌∙◌, arith, rules}
-use Rattle.intake.proofs.Common.{Bor, HasLine, StandsAfter, length-map}
+use Rattle.std.proofs.Common.{◌≡◌, ℕ, ℤ, List, [], ◌∷◌, ◌++◌, length, map, Some, sym, ap, subst, ◌∙◌, rules}
+use Rattle.intake.proofs.Common.{Bor, HasLine, StandsAfter}
 use Rattle.intake.proofs.Lists.{first_field, other_fields}
 use Rattle.intake.proofs.One.{same_price}
-use Rattle.intake.proofs.PairLine.{nowhere, one_place}
-use Rattle.intake.proofs.Prices.{price_after, price_is, price_written}
+use Rattle.intake.proofs.PairLine.{one_place}
+use Rattle.intake.proofs.Prices.{price_is, price_written}
 use Rattle.intake.proofs.draft.add_price.Goals as goal
-
-pub returns-in_default-position_at : goal.returns-in_default-position_at
-returns-in_default-position_at g c = λ e t.
-    let keys : List (List ℕ) = map g.E.Coded.key c.args.roll.now in
-    let first = first_field _ _ _ _ (sym (ap (map (λ (f : Bor (List ℕ)). f.now)) c.in-Some.ensures.cases.0) ∙ (price_is c.args.kind t.entry e.1 _ t.is).1) in
-    nowhere keys (length c.args.roll.now) e.0 _ _ (sym (length-map c.args.roll.now g.E.Coded.key)) first c.in_default-position_at.ensures t.here
 
 pub returns-then-not-stands_after : goal.returns-then-not-stands_after
 returns-then-not-stands_after g c = λ e t.
@@ -23,10 +17,6 @@ returns-then-not-stands_after g c = λ e t.
     let no = c.if-not-stands_after.true in
     cc
 
-pub returns-in_default-read_price : goal.returns-in_default-read_price
-returns-in_default-read_price g c = λ e t.
-    c.in_default-read_price.ensures e.1 t.fits (other_fields _ _ _ _ (sym (ap (map (λ (f : Bor (List ℕ)). f.now)) c.in-Some.ensures.cases.0) ∙ (price_is c.args.kind t.entry e.1 _ t.is).1))
-
 pub returns-then-not-has_line : goal.returns-then-not-has_line
 returns-then-not-has_line g c = λ e t.
     let is = price_is c.args.kind t.entry e.1 _ t.is in
@@ -35,12 +25,6 @@ returns-then-not-has_line g c = λ e t.
     let yes = c.has_line.ensures.1 (subst (HasLine c.args.kind) same is.0) in
     let no = c.if-not-has_line.true in
     cc
-
-pub fill-requires : goal.fill-requires
-fill-requires g c =
-    let many : c.len-2.result ≡ length c.args.prices.now.items = search rules in
-    let later = (price_after c.args.kind c.len-2.result c.in-Some-position_at.position (c.stands_after.ensures.0 c.if-not-stands_after.false)).0 in
-    omega (arith, many, later)
 
 pub returns : goal.returns
 returns g c =

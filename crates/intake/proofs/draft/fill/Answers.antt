@@ -1,11 +1,6 @@
-use Rattle.std.proofs.Common.{◌≡◌, ℕ, ◌+◌, ◌-◌, ◌≤◌, List, [], ◌∷◌, ◌++◌, length, replicate, ap, sym, ◌∙◌, append_assoc, append-nil, arith}
+use Rattle.std.proofs.Common.{◌≡◌, ℕ, ◌+◌, ◌-◌, ◌≤◌, List, [], ◌∷◌, ◌++◌, length, replicate, ap, ◌∙◌, append_assoc, arith}
 use Rattle.intake.proofs.Common.{replicate_more}
 use Rattle.intake.proofs.draft.fill.Goals as goal
-
-pub loop-init : goal.loop-init
-loop-init g c =
-    let none : c.len-counter.result - length c.args.list.now.items ≡ 0 = omega (arith, c.len-counter.ensures) in
-    sym (ap (λ (n : ℕ). c.args.list.now.items ++ replicate n c.args.value) none ∙ append-nil c.args.list.now.items)
 
 -- one more
 more : {X : Type 0} (x : X) (xs ys zs : List X) (m n : ℕ) → m ≤ n → ys ≡ xs ++ replicate (n - m) x → zs ≡ ys ++ x ∷ [] → zs ≡ xs ++ replicate (n + 1 - m) x
@@ -17,8 +12,3 @@ more {X = X} x xs ys zs m n h e f =
 pub loop-preserved : goal.loop-preserved
 loop-preserved g c =
     more c.args.value c.args.list.now.items c.loop.list.items c.push.new.self.items (length c.args.list.now.items) c.loop.counter (omega (arith, c.loop.auto.counter)) c.loop.invariant c.in_ok-push.ensures.items
-
-pub returns : goal.returns
-returns g c =
-    let all : c.loop.counter - length c.args.list.now.items ≡ c.args.len - length c.args.list.now.items = omega (arith, c.loop.auto.counter-end, c.loop-test.false, c.requires, c.len-counter.ensures) in
-    c.loop.invariant ∙ ap (λ (n : ℕ). c.args.list.now.items ++ replicate n c.args.value) all

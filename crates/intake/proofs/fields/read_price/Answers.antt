@@ -1,6 +1,6 @@
 use Rattle.std.proofs.Common.{ℕ, get_or, pos, arith, List, []}
 use Rattle.intake.proofs.Common.{Bor}
-use Rattle.intake.proofs.Numbers.{field_is, fields_are, read_more}
+use Rattle.intake.proofs.Numbers.{field_is, fields_are}
 use Rattle.intake.proofs.fields.read_price.Goals as goal
 
 -- what a look-up past the end gives
@@ -10,9 +10,6 @@ blank = record { ref_ptr = (0, 0); now = [] }
 pub returns-in_default : goal.returns-in_default
 returns-in_default c = λ v p e.
     c.in_default.ensures (get_or v c.loop-t.t (pos 0)) (p.range c.loop-t.t c.loop-t-test.true) (field_is c.args.fields.now v c.loop-t.t blank e (omega (arith, p.numbers, c.loop-t-test.true)))
-
-pub loop-t-preserved : goal.loop-t-preserved
-loop-t-preserved c = read_more c.args.fields.now c.loop-t.price c.loop-t.t c.in-Some.number blank c.loop-t-test.true (omega arith) c.loop-t.invariant c.in-Some.ensures.0 c.in-Some.ensures.1
 
 pub returns : goal.returns
 returns c =

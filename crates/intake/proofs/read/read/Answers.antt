@@ -1,5 +1,5 @@
 use Rattle.std.proofs.Common.{◌≡◌, ℕ, ◌-◌, ◌<◌, Bool, List, length, take, sym, ap, subst, ◌∙◌, arith}
-use Rattle.intake.proofs.Common.{Bor, length-map, err_from_is_err_and, pieces, draft_of, AddsLine}
+use Rattle.intake.proofs.Common.{Bor, length-map, pieces, draft_of, AddsLine}
 use Rattle.intake.proofs.Bad.{IsRead, some_piece, piece_at, line_more, bad_line, bad_end, good_text, read_draft}
 use Rattle.intake.proofs.Sections.{fields_of}
 use Rattle.intake.proofs.read.read.Goals as goal
@@ -65,26 +65,5 @@ returns c =
       omega arith,
     )
 
-pub pieces-requires : goal.pieces-requires
-pieces-requires c = tt
-
-pub new-draft-requires : goal.new-draft-requires
-new-draft-requires c = tt
-
-pub may_end-requires : goal.may_end-requires
-may_end-requires c = tt
-
-pub index-requires : goal.index-requires
-index-requires c = omega (arith, c.loop-n-test.true, c.len-whole.ensures)
-
 pub add_line-requires : goal.add_line-requires
 add_line-requires c = read_draft c.args.kind _ _ c.loop-n.invariant
-
-pub loop-n-smaller : goal.loop-n-smaller
-loop-n-smaller c = omega (arith, c.loop-n-test.true)
-
-pub returns-in_err-lines : goal.returns-in_err-lines
-returns-in_err-lines c = let p = err_from_is_err_and c.from_residual.result c.from_residual.ensures.1 in rw (p.1, p.2) tt
-
-pub returns-in_err-add_line : goal.returns-in_err-add_line
-returns-in_err-add_line c = let p = err_from_is_err_and c.from_residual-in_err-add_line.result c.from_residual-in_err-add_line.ensures.1 in rw (p.1, p.2) tt

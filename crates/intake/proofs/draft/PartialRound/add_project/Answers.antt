@@ -1,5 +1,5 @@
 use Rattle.std.proofs.Common.{◌≡◌, ℕ, List, [], ◌∷◌, length, map, get_or, slice_get, Some, decimal, sym, ap, subst, ◌∙◌, arith}
-use Rattle.intake.proofs.Common.{Bor, length-map, err_from_is_err_and, supervisors_of, Rise, IsRoll}
+use Rattle.intake.proofs.Common.{length-map, supervisors_of, Rise, IsRoll}
 use Rattle.intake.proofs.RowInDraft.{three_fields, project_added}
 use Rattle.intake.proofs.Lists.{blank, first_field}
 use Rattle.intake.proofs.Order.{get_found, key_at}
@@ -47,36 +47,3 @@ returns c =
       },
       project_added _ c.args.self.now.supervisors.items c.args.self.now.projects.items c.push.new.self.items (map (λ e. (e.0, e.1.items)) c.args.self.now.students.items) c.args.self.now.places.items _ _ _ c.in-Some.code c.copy-supervisor.result c.in-Some-read_quota.quota c.in_ok-push.ensures.items,
     )
-
-pub read_quota-requires : goal.read_quota-requires
-read_quota-requires c = tt
-
-pub returns-in_default-read_quota : goal.returns-in_default-read_quota
-returns-in_default-read_quota c = λ e t.
-    let row : (get_or c.args.fields.now 0 blank).now ∷ (get_or c.args.fields.now 1 blank).now ∷ (get_or c.args.fields.now 2 blank).now ∷ [] ≡ e.code ∷ e.supervisor ∷ decimal e.quota ∷ [] = sym (three_fields c.args.fields.now c.in-len3.len_at_least c.in-len3.len_below) ∙ t.is in
-    let third : (get_or c.args.fields.now 2 blank).now ≡ decimal e.quota = cc in
-    c.in_default-read_quota.ensures e.quota t.fits.1 third
-
-pub guess-guess-requires : goal.guess-guess-requires
-guess-guess-requires c = tt
-
-pub copy-supervisor-requires : goal.copy-supervisor-requires
-copy-supervisor-requires c = tt
-
-pub as_str-requires : goal.as_str-requires
-as_str-requires c = tt
-
-pub as_bytes-requires : goal.as_bytes-requires
-as_bytes-requires c = tt
-
-pub note-requires : goal.note-requires
-note-requires c = tt
-
-pub returns-in_default : goal.returns-in_default
-returns-in_default c = λ e t. absurd (omega (arith, ap length t.is, length-map c.args.fields.now (λ (f : Bor (List ℕ)). f.now), c.in_default.len_below))
-
-pub index-requires : goal.index-requires
-index-requires c = omega (arith, c.in-Some-position_at.ensures.0, ap length c.deref-2.ensures.value, c.args.self.now.supervisors.ok.0)
-
-pub returns-in_err-push : goal.returns-in_err-push
-returns-in_err-push c = let p = err_from_is_err_and c.from_residual.result c.from_residual.ensures.1 in rw p.1 tt

@@ -1,12 +1,9 @@
-use Rattle.std.proofs.Common.{◌≡◌, ℕ, List, [], ◌∷◌, length, map, get_or, decimal, sym, ap, subst, ◌∙◌, arith}
-use Rattle.intake.proofs.Common.{Bor, length-map, err_from_is_err_and, Rise}
+use Rattle.std.proofs.Common.{ℕ, List, [], ◌∷◌, map, get_or, sym, ap, subst, ◌∙◌}
+use Rattle.intake.proofs.Common.{Rise}
 use Rattle.intake.proofs.RowInDraft.{two_fields, supervisor_added}
 use Rattle.intake.proofs.Lists.{blank, first_field}
 use Rattle.intake.proofs.Rolls.{supervisor_keys, comes_moved}
 use Rattle.intake.proofs.draft.PartialRound.add_supervisor.Goals as goal
-
-pub returns-in_default : goal.returns-in_default
-returns-in_default c = λ e t. absurd (omega (arith, ap length t.is, length-map c.args.fields.now (λ (f : Bor (List ℕ)). f.now), c.in_default.len_below))
 
 pub next_code-requires : goal.next_code-requires
 next_code-requires c = subst Rise (supervisor_keys c.args.self.now.supervisors.items ∙ ap (map (λ e. e.0)) (sym c.deref.ensures.value)) c.requires.rise
@@ -27,24 +24,3 @@ returns c =
       },
       supervisor_added _ c.args.self.now.supervisors.items c.push.new.self.items c.args.self.now.projects.items (map (λ e. (e.0, e.1.items)) c.args.self.now.students.items) c.args.self.now.places.items _ _ _ c.in-Some.code c.in-Some-read_quota.quota c.in_ok-push.ensures.items,
     )
-
-pub read_quota-requires : goal.read_quota-requires
-read_quota-requires c = tt
-
-pub returns-in_default-read_quota : goal.returns-in_default-read_quota
-returns-in_default-read_quota c = λ e t.
-    let row : (get_or c.args.fields.now 0 blank).now ∷ (get_or c.args.fields.now 1 blank).now ∷ [] ≡ e.code ∷ decimal e.quota ∷ [] = sym (two_fields c.args.fields.now c.in-len2.len_at_least c.in-len2.len_below) ∙ t.is in
-    let second : (get_or c.args.fields.now 1 blank).now ≡ decimal e.quota = cc in
-    c.in_default-read_quota.ensures e.quota t.fits second
-
-pub as_str-requires : goal.as_str-requires
-as_str-requires c = tt
-
-pub as_bytes-requires : goal.as_bytes-requires
-as_bytes-requires c = tt
-
-pub returns-in_err-push : goal.returns-in_err-push
-returns-in_err-push c = let p = err_from_is_err_and c.from_residual.result c.from_residual.ensures.1 in rw p.1 tt
-
-pub note-requires : goal.note-requires
-note-requires c = tt

@@ -1,6 +1,5 @@
-use Rattle.std.proofs.Common.{map, sym, ap, ◌∙◌, subst, arith}
+use Rattle.std.proofs.Common.{map, sym, ap, ◌∙◌, subst}
 use Rattle.intake.proofs.Common.{IsRoll, draft_of}
-use Rattle.intake.proofs.Widths.{most_ranks}
 use Rattle.intake.proofs.RowInDraft.{adds_put, price_moved}
 use Rattle.intake.proofs.Rolls.{supervisor_keys, project_keys, student_keys}
 use Rattle.intake.proofs.draft.PartialRound.add_to.Goals as goal
@@ -26,9 +25,6 @@ add_price-requires-in-ProjectPrices c = subst IsRoll (project_keys c.args.self.n
 
 pub add_price-requires-in-SupervisorPrices : goal.add_price-requires-in-SupervisorPrices
 add_price-requires-in-SupervisorPrices c = subst IsRoll (supervisor_keys c.args.self.now.supervisors.items ∙ ap (map (λ e. e.0)) (sym c.deref-in-SupervisorPrices.ensures.value)) c.requires.instance.supervisors
-
-pub add_pair-requires-clause-lists : goal.add_pair-requires-clause-lists
-add_pair-requires-clause-lists c = λ k d l. (let sound = c.requires.instance.listed k d l in omega (arith, sound.0.1, most_ranks c.args.kind))
 
 pub returns-in-Supervisors : goal.returns-in-Supervisors
 returns-in-Supervisors c = rw c.in-Supervisors.is c.add_supervisor.ensures
