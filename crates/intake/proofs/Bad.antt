@@ -1,11 +1,11 @@
 -- The first line up to which lines begin no text of the kind.
-use Rattle.std.proofs.Common.{◌≡◌, ℕ, ◌+◌, ◌<◌, ◌≤◌, List, [], ◌∷◌, ◌++◌, length, map, take, drop, get_or, refl, sym, ap, ◌∙◌, subst, arith, rules, append_assoc, append-nil}
-use Rattle.intake.proofs.Common.{◌==◌, map-append, map_push, take_more, take_at, take_all, take-append-le, take-append-drop, length-append, get_or_at, get_or-map, Bor, length-slice_split, Kind, Parts, ArePartsOf, Row, sections, lines_of, text_of, pieces, BeginsLines, IsFirstBadLine, IsDraft, IsWhole, nothing, Adds}
-use Rattle.intake.proofs.Chain.{Reads, reached, reads_draft, reads_push, reads_rest}
+use Rattle.std.proofs.Common.{◌≡◌, ℕ, ◌+◌, ◌<◌, ◌≤◌, List, [], ◌∷◌, ◌++◌, length, map, take, drop, get_or, All, refl, sym, ap, ◌∙◌, subst, arith, append_assoc, append-nil}
+use Rattle.intake.proofs.Common.{◌==◌, map-append, map_push, take_more, take_at, take_all, take-append-le, take-append-drop, length-append, get_or_at, get_or-map, Bor, length-slice_split, Kind, Parts, ArePartsOf, Row, sections, lines_of, text_of, pieces, BeginsLines, IsFirstBadLine, IsDraft, IsWhole, IsFree, nothing, Adds}
+use Rattle.intake.proofs.Chain.{Reads, nothing_draft, reached, reads_draft, reads_push, reads_rest}
 use Rattle.intake.proofs.Ends.{draft_begins}
 use Rattle.intake.proofs.Pieces.{line_back, line_of, pieces_back, text_back}
 use Rattle.intake.proofs.Plain.{parts_plain}
-use Rattle.intake.proofs.Sections.{fields_of, full_lines, lines_free, sections_back}
+use Rattle.intake.proofs.Sections.{fields_of, full, full_lines, lines_free, rows_back}
 
 -- there is a piece
 pub some_piece : (text : List ℕ) → 1 ≤ length (pieces text)
@@ -13,15 +13,15 @@ some_piece text = omega (arith, length-slice_split (λ b. b == 10) text)
 
 -- the pieces of a text are its lines and an empty one
 pub text_pieces : (k : Kind) (text : List ℕ) (p : Parts) → ArePartsOf k p → text ≡ text_of k p → pieces text ≡ lines_of k p ++ [] ∷ []
-text_pieces k text p v e = ap pieces e ∙ pieces_back (lines_of k p) (lines_free 10 (sections k p) refl (parts_plain 10 (omega arith) k p v))
+text_pieces k text p v e = ap pieces e ∙ pieces_back (lines_of k p) (subst (All (IsFree 10)) (sym (full_lines (sections k p))) (lines_free 10 (full (sections k p)) refl (parts_plain 10 (omega arith) k p v)))
+
+-- the fields of the lines of parts
+pub parts_back : (k : Kind) (p : Parts) → ArePartsOf k p → map fields_of (lines_of k p) ≡ full (sections k p)
+parts_back k p v = ap (map fields_of) (full_lines (sections k p)) ∙ rows_back (full (sections k p)) (parts_plain 44 (omega arith) k p v)
 
 -- the lines of parts, up to any of them, begin a text
 front_begins : (k : Kind) (p : Parts) (n : ℕ) → ArePartsOf k p → BeginsLines k (take n (lines_of k p))
 front_begins k p n v = (p, drop n (lines_of k p), v, sym (take-append-drop n (lines_of k p)))
-
--- nothing is a draft
-pub nothing_draft : (k : Kind) → IsDraft k nothing
-nothing_draft k = search rules
 
 -- the lines of fields are those that they were read from
 lines_back : (ls : List (List ℕ)) → map line_of (map fields_of ls) ≡ ls
@@ -44,7 +44,7 @@ read_lines k ls d r = full_lines (sections k d) ∙ ap (map line_of) (reads_draf
 rest_read : (k : Kind) (p : Parts) (ls rest : List (List ℕ)) (d : Parts) → ArePartsOf k p → lines_of k p ≡ ls ++ rest → IsRead k ls d → (e : Parts) × IsWhole k e × Reads k d (map fields_of rest) e
 rest_read k p ls rest d v e r =
     let all = reached k p v in
-    let rows = sym (sections_back (sections k p) (parts_plain 44 (omega arith) k p v)) ∙ ap (map fields_of) e ∙ map-append fields_of ls rest in
+    let rows = sym (parts_back k p v) ∙ ap (map fields_of) e ∙ map-append fields_of ls rest in
     (all.draft, all.whole, reads_rest k nothing all.draft d (map fields_of ls) (map fields_of rest) (nothing_draft k) (subst (λ (l : List Row). Reads k nothing l all.draft) rows all.reads) r)
 
 -- a line that adds nothing begins no text with those before it

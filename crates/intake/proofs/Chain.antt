@@ -1,5 +1,5 @@
 -- Lines are read one after the other, and those of each text are.
-use Rattle.std.proofs.Common.{◌≡◌, ℕ, zero, suc, ◌+◌, ◌-◌, ◌≤◌, inl, inr, ℤ, List, [], ◌∷◌, ◌++◌, length, map, get_or, replicate, slice_get, codes, Option, Some, None, All, Contains, refl, sym, ap, ◌∙◌, subst, arith, append_assoc, append-nil}
+use Rattle.std.proofs.Common.{◌≡◌, ℕ, zero, suc, ◌+◌, ◌-◌, ◌≤◌, inl, inr, ℤ, List, [], ◌∷◌, ◌++◌, length, map, get_or, replicate, slice_get, codes, Option, Some, None, All, Contains, refl, sym, ap, ◌∙◌, subst, arith, rules, append_assoc, append-nil}
 use Rattle.intake.proofs.Common.{⊤, AllZip, All-head, All-tail, IsTrue, is_code, map-append, length-append, length_push, length-map, length-replicate, get_or_at, get_or_append_left, Aim, Greedy, Generous, MAX_QUOTA, MAX_SUPERVISORS, MAX_PROJECTS, MAX_STUDENTS, Instance, Supervisor, Project, Student, supervisor_codes, project_codes, student_codes, Kind, Round, Public, SectionName, Aims, Supervisors, Projects, Students, Pairs, StudentPrices, ProjectPrices, SupervisorPrices, Parts, Rise, IsRoll, IsPlace, IsPrice, IsListOf, IsInstance, ArePartsOf, Row, row_before, rows_where, sections, student_letter, aim_rows, supervisor_row, project_row, student_row, pair_row, pair_rows, price_row, price_rows, IsDraft, IsWhole, IsCompleted, AreFirst, StandsAfter, nothing, Adds, AddsIn, NextEntry, NextPosition, NoneOrAll, added, letter_of, zeros}
 use Rattle.intake.proofs.Ends.{placed}
 use Rattle.intake.proofs.One.{adds_one}
@@ -13,6 +13,10 @@ abbrev pub Reads : Kind → Parts → List Row → Parts → Type 0
 Reads k old [] new = old ≡ new
 Reads k old (fields ∷ rest) new = (mid : Parts) × Adds k old fields mid × Reads k mid rest new
 
+-- nothing is a draft
+pub nothing_draft : (k : Kind) → IsDraft k nothing
+nothing_draft k = search rules
+
 -- lines and then others
 pub reads_append : (k : Kind) (a b d : Parts) (xs ys : List Row) → Reads k a xs b → Reads k b ys d → Reads k a (xs ++ ys) d
 reads_append k a b d [] ys r t = subst (λ (p : Parts). Reads k p ys d) (sym r) t
@@ -23,7 +27,7 @@ pub reads_push : (k : Kind) (a b d : Parts) (ls : List Row) (x : Row) → Reads 
 reads_push k a b d ls x r t = reads_append k a b d ls (x ∷ []) r (d, t, refl)
 
 -- one line more of a draft
-adds_draft : (k : Kind) (old : Parts) (fields : Row) (new : Parts) → IsDraft k old → Adds k old fields new → IsDraft k new × (full (sections k new) ≡ full (sections k old) ++ fields ∷ [])
+pub adds_draft : (k : Kind) (old : Parts) (fields : Row) (new : Parts) → IsDraft k old → Adds k old fields new → IsDraft k new × (full (sections k new) ≡ full (sections k old) ++ fields ∷ [])
 adds_draft k old fields new d a =
     let s = step k a.section old a.row a.adds.entry d a.adds.turn a.adds.next in
     (subst (IsDraft k) (sym a.adds.made) s.0, ap (λ (p : Parts). full (sections k p)) a.adds.made ∙ s.1 ∙ ap (λ (f : Row). full (sections k old) ++ f ∷ []) (sym a.is))

@@ -1,9 +1,10 @@
 -- A comma or an LF stands in no field.
-use Rattle.std.proofs.Common.{◌≡◌, ℕ, suc, ◌+◌, ◌<◌, ◌≤◌, ◌^◌, ◌%◌, ℤ, pos, negsuc, Bool, true, false, List, [], ◌∷◌, get_or, codes, decimal, All, refl, sym, subst, arith}
-use Rattle.intake.proofs.Common.{signed_decimal, list_all, ◌==◌, nat_le, first_so, second_so, ne_eqb, nat_tests, decimal_by_steps, All-nil, All-cons, All-push, is_code, is_code_byte, InRange, Kind, Round, Public, Parts, IsPrice, IsInstance, ArePartsOf, Section, sections, student_letter, IsFree, code_bytes}
-use Rattle.intake.proofs.Widths.{Said, OfRows, OfLetters, widths, rows_said}
+use Rattle.std.proofs.Common.{◌≡◌, ℕ, suc, ◌+◌, ◌<◌, ◌≤◌, ◌^◌, ◌%◌, ℤ, pos, negsuc, Bool, true, false, List, [], ◌∷◌, codes, decimal, All, refl, sym, subst, arith}
+use Rattle.intake.proofs.Common.{signed_decimal, list_all, ◌==◌, nat_le, first_so, second_so, ne_eqb, nat_tests, decimal_by_steps, All-nil, All-cons, All-push, is_code, is_code_byte, InRange, Kind, Round, Public, Parts, ArePartsOf, Row, SectionName, Aims, Supervisors, Projects, Students, Pairs, StudentPrices, ProjectPrices, SupervisorPrices, sections, IsDraft, IsFree, letter_of, nothing, code_bytes}
+use Rattle.intake.proofs.Chain.{Reads, adds_draft, nothing_draft, reached}
+use Rattle.intake.proofs.Widths.{Said, next_said}
 use Rattle.intake.proofs.Numbers.{small}
-use Rattle.intake.proofs.Sections.{Plain}
+use Rattle.intake.proofs.Sections.{IsLine, full}
 
 -- a byte of a code is at least a dash
 code_byte_high : (b : ℕ) → is_code_byte b ≡ true → 45 ≤ b
@@ -47,7 +48,6 @@ module _ (c : ℕ) (low : c < 45) where
   free_said : Said (λ w x. IsFree c x) (λ k r. All (IsFree c) r)
   free_said = record {
     code = code_plain;
-    blank = All-nil (λ b. (b == c) ≡ false);
     aim = high_plain (nat_le 45) tested_high (codes "generous") refl;
     quota = λ n h. number_plain n (omega arith);
     number = signed_plain;
@@ -55,29 +55,30 @@ module _ (c : ℕ) (low : c < 45) where
     more = λ w k m x r f g h. All-cons (IsFree c) x r f g;
   }
 
-  -- rows and letters without the byte
-  plain : (ws : List ℕ) (ss : List Section) → OfLetters (IsFree c) ss → OfRows (λ k r. All (IsFree c) r) ws ss → Plain c ss
-  plain [] [] l h = tt
-  plain [] (s ∷ ss) l h = absurd h
-  plain (w ∷ ws) [] l h = absurd h
-  plain (w ∷ ws) (s ∷ ss) l h = (λ k d i. All-cons (IsFree c) s.letter (get_or s.rows k d) l.0 (h.0 k d i), plain ws ss l.1 h.1)
-
   -- a letter is not the byte
-  pub letter : (b : ℕ) → 45 ≤ b → IsFree c (b ∷ [])
+  letter : (b : ℕ) → 45 ≤ b → IsFree c (b ∷ [])
   letter b h = All-cons (λ b. (b == c) ≡ false) b [] (apart b h) (All-nil (λ b. (b == c) ≡ false))
 
-  -- nor are those of the students' lines
-  student_letters : (k : Kind) → IsFree c (student_letter k)
-  student_letters Round = letter 67 (omega arith)
-  student_letters Public = letter 82 (omega arith)
+  -- nor are those of the sections
+  letters : (k : Kind) (s : SectionName) → IsFree c (letter_of k s)
+  letters k Aims = letter 65 (omega arith)
+  letters k Supervisors = letter 83 (omega arith)
+  letters k Projects = letter 80 (omega arith)
+  letters Round Students = letter 67 (omega arith)
+  letters Public Students = letter 82 (omega arith)
+  letters k Pairs = letter 77 (omega arith)
+  letters k StudentPrices = letter 85 (omega arith)
+  letters k ProjectPrices = letter 89 (omega arith)
+  letters k SupervisorPrices = letter 90 (omega arith)
 
-  -- it stands in no field of an instance, places and prices
-  pub sections_plain : (k : Kind) (p : Parts) → IsInstance k p.instance → All IsPrice p.student_prices → All IsPrice p.project_prices → All IsPrice p.supervisor_prices → Plain c (sections k p)
-  sections_plain k p i u y z =
-      plain widths (sections k p) (letter 65 (omega arith), (letter 83 (omega arith), (letter 80 (omega arith), (student_letters k, (letter 77 (omega arith), (letter 85 (omega arith), (letter 89 (omega arith), (letter 90 (omega arith), tt))))))))
-      (rows_said (λ w x. IsFree c x) (λ k r. All (IsFree c) r) free_said k p i u y z)
+  -- it stands in no field of what is read
+  reads_plain : (k : Kind) (a b : Parts) (rows : List Row) → IsDraft k a → Reads k a rows b → All (IsLine c) rows
+  reads_plain k a b [] d r = All-nil (IsLine c)
+  reads_plain k a b (x ∷ rows) d r =
+      let add = r.1 in
+      let row = next_said (λ w f. IsFree c f) (λ w f. All (IsFree c) f) free_said k add.section a add.row add.adds.entry d add.adds.next in
+      All-cons (IsLine c) x rows (subst (IsLine c) (sym add.is) (All-cons (IsFree c) (letter_of k add.section) add.row (letters k add.section) row)) (reads_plain k r.0 b rows (adds_draft k a x r.0 d add).0 r.2)
 
-  -- nor in any of the parts of a text
-  pub parts_plain : (k : Kind) (p : Parts) → ArePartsOf k p → Plain c (sections k p)
-  parts_plain Round p v = sections_plain Round p v.instance v.student_prices.prices v.project_prices.prices v.supervisor_prices.prices
-  parts_plain Public p v = sections_plain Public p v.instance (subst (All IsPrice) (sym v.student_prices) (All-nil IsPrice)) v.project_prices.prices v.supervisor_prices.prices
+  -- so it is with the parts of a text
+  pub parts_plain : (k : Kind) (p : Parts) → ArePartsOf k p → All (IsLine c) (full (sections k p))
+  parts_plain k p v = (let r = reached k p v in reads_plain k nothing r.draft (full (sections k p)) (nothing_draft k) r.reads)

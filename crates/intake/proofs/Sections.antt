@@ -17,24 +17,16 @@ abbrev pub full : List Section → List (List (List ℕ))
 full [] = []
 full (s ∷ ss) = map (λ r. s.letter ∷ r) s.rows ++ full ss
 
--- the byte c stands in no field
-abbrev pub Plain : ℕ → List Section → Type 0
-Plain c [] = ⊤
-Plain c (s ∷ ss) = All (λ r. All (IsFree c) (s.letter ∷ r)) s.rows × Plain c ss
+-- fields in which the byte c does not stand
+abbrev pub IsLine : ℕ → Row → Type 0
+IsLine c [] = ⊥
+IsLine c (l ∷ r) = All (IsFree c) (l ∷ r)
 
--- the fields of the lines of a section
-section_back : (l : List ℕ) (rows : List Row) → All (λ r. All IsField (l ∷ r)) rows → map fields_of (map (line l) rows) ≡ map (λ r. l ∷ r) rows
-section_back l [] h = refl
-section_back l (r ∷ rows) h =
-    ap (λ (f : List (List ℕ)). f ∷ map fields_of (map (line l) rows)) (fields_back l r (All-head (λ r. All IsField (l ∷ r)) r rows h))
-    ∙ ap (λ (fs : List (List (List ℕ))). (l ∷ r) ∷ fs) (section_back l rows (All-tail (λ r. All IsField (l ∷ r)) r rows h))
-
--- and of all sections
-pub sections_back : (ss : List Section) → Plain 44 ss → map fields_of (flat_map section_lines ss) ≡ full ss
-sections_back [] h = refl
-sections_back (s ∷ ss) h =
-    map-append fields_of (section_lines s) (flat_map section_lines ss) ∙ ap (λ (l : List (List (List ℕ))). l ++ map fields_of (flat_map section_lines ss)) (section_back s.letter s.rows h.0)
-    ∙ ap (λ (l : List (List (List ℕ))). map (λ r. s.letter ∷ r) s.rows ++ l) (sections_back ss h.1)
+-- the fields of lines that were made of them
+pub rows_back : (rows : List Row) → All (IsLine 44) rows → map fields_of (map line_of rows) ≡ rows
+rows_back [] h = refl
+rows_back ([] ∷ rows) h = absurd (All-head (IsLine 44) [] rows h)
+rows_back ((l ∷ r) ∷ rows) h = ap (λ (f : Row). f ∷ map fields_of (map line_of rows)) (fields_back l r (All-head (IsLine 44) (l ∷ r) rows h)) ∙ ap (λ (fs : List Row). (l ∷ r) ∷ fs) (rows_back rows (All-tail (IsLine 44) (l ∷ r) rows h))
 
 -- no section has rows
 abbrev pub NoRows : List Section → Type 0
@@ -49,15 +41,11 @@ line_free c l r h f = All-append (λ b. (b == c) ≡ false) l (flat_map (λ g. 4
     go [] f = All-nil (λ b. (b == c) ≡ false)
     go (g ∷ r) f = All-cons (λ b. (b == c) ≡ false) 44 (g ++ flat_map (λ g. 44 ∷ g) r) h (All-append (λ b. (b == c) ≡ false) g (flat_map (λ g. 44 ∷ g) r) (All-head (IsFree c) g r f) (go r (All-tail (IsFree c) g r f)))
 
--- the lines of a section in which c does not stand
-section_free : (c : ℕ) (l : List ℕ) (rows : List Row) → (44 == c) ≡ false → All (λ r. All (IsFree c) (l ∷ r)) rows → All (IsFree c) (map (line l) rows)
-section_free c l [] h f = All-nil (IsFree c)
-section_free c l (r ∷ rows) h f = All-cons (IsFree c) (line l r) (map (line l) rows) (line_free c l r h (All-head (λ r. All (IsFree c) (l ∷ r)) r rows f)) (section_free c l rows h (All-tail (λ r. All (IsFree c) (l ∷ r)) r rows f))
-
--- and of all sections
-pub lines_free : (c : ℕ) (ss : List Section) → (44 == c) ≡ false → Plain c ss → All (IsFree c) (flat_map section_lines ss)
+-- and of all rows
+pub lines_free : (c : ℕ) (rows : List Row) → (44 == c) ≡ false → All (IsLine c) rows → All (IsFree c) (map line_of rows)
 lines_free c [] h f = All-nil (IsFree c)
-lines_free c (s ∷ ss) h f = All-append (IsFree c) (section_lines s) (flat_map section_lines ss) (section_free c s.letter s.rows h f.0) (lines_free c ss h f.1)
+lines_free c ([] ∷ rows) h f = absurd (All-head (IsLine c) [] rows f)
+lines_free c ((l ∷ r) ∷ rows) h f = All-cons (IsFree c) (line l r) (map line_of rows) (line_free c l r h (All-head (IsLine c) (l ∷ r) rows f)) (lines_free c rows h (All-tail (IsLine c) (l ∷ r) rows f))
 
 -- the letter of the section at a place
 abbrev pub letter_at : ℕ → List Section → List ℕ

@@ -4,18 +4,17 @@ use Rattle.intake.proofs.Common.{append_cancel_right, Parts, IsRoundParts, Round
 use Rattle.intake.specs.declared.round.RoundParts.{RoundParts}
 use Rattle.intake.specs.declared.round.RoundFault.{RoundFault}
 use Rattle.intake.specs.declared.round.RoundFault.TheVariants.{Memory, TooLarge, Line}
-use Rattle.intake.proofs.Bad.{nothing_draft, text_pieces}
-use Rattle.intake.proofs.Chain.{Reads, reached, reads_rest}
+use Rattle.intake.proofs.Bad.{parts_back, text_pieces}
+use Rattle.intake.proofs.Chain.{Reads, nothing_draft, reached, reads_rest}
 use Rattle.intake.proofs.Ends.{placed}
-use Rattle.intake.proofs.Plain.{parts_plain}
-use Rattle.intake.proofs.Sections.{fields_of, full, sections_back}
+use Rattle.intake.proofs.Sections.{fields_of, full}
 use Rattle.intake.proofs.Size.{text_small}
 
 -- parts with one text are the same
 pub one_text : (p q : Parts) → IsRoundParts p → IsRoundParts q → round_text p ≡ round_text q → p ≡ q
 one_text p q v w e =
     let lines : lines_of Round p ≡ lines_of Round q = append_cancel_right (lines_of Round p) (lines_of Round q) ([] ∷ []) (sym (text_pieces Round (round_text p) p v refl) ∙ text_pieces Round (round_text p) q w e) in
-    let rows = sym (sections_back (sections Round p) (parts_plain 44 (omega arith) Round p v)) ∙ ap (map fields_of) lines ∙ sections_back (sections Round q) (parts_plain 44 (omega arith) Round q w) in
+    let rows = sym (parts_back Round p v) ∙ ap (map fields_of) lines ∙ parts_back Round q w in
     let a = reached Round p v in
     let b = reached Round q w in
     let same : b.draft ≡ a.draft = reads_rest Round nothing a.draft b.draft (full (sections Round q)) [] (nothing_draft Round) (subst (λ (l : List Row). Reads Round nothing l a.draft) (rows ∙ sym (append-nil (full (sections Round q)))) a.reads) b.reads in

@@ -1,6 +1,6 @@
 -- Rows of those entries of a roll that have one.
-use Rattle.std.proofs.Common.{◌≡◌, ℕ, zero, suc, ◌+◌, ◌-◌, ◌≤◌, ◌⊎◌, inl, inr, List, [], ◌∷◌, ◌++◌, length, replicate, slice_get, Option, Some, None, refl, sym, ap, ◌∙◌, subst, arith, All}
-use Rattle.intake.proofs.Common.{Row, row_before, rows_where, All-nil, All-cons, AreFirst, NextPosition, added}
+use Rattle.std.proofs.Common.{◌≡◌, ℕ, zero, suc, ◌+◌, ◌-◌, ◌≤◌, ◌⊎◌, inl, inr, List, [], ◌∷◌, ◌++◌, length, replicate, slice_get, Option, Some, None, refl, sym, ap, ◌∙◌, subst, arith}
+use Rattle.intake.proofs.Common.{Row, row_before, rows_where, AreFirst, NextPosition, added}
 
 -- the first field of a row
 abbrev pub code_of : Row → List ℕ
@@ -71,24 +71,3 @@ pub first_few : {E X : Type 0} (Fits : E → X → Type 0) (es : List E) (xs : L
 first_few Fits es [] h = omega arith
 first_few Fits [] (x ∷ xs) h = absurd h
 first_few Fits (e ∷ es) (x ∷ xs) h = (let r = first_few Fits es xs h.1 in omega (arith, r))
-
--- what is said of the row of each entry is said of all rows
-pub rows_all : {E X : Type 0} (row : E → X → Option Row) (R : Row → Type 0) (es : List E) (xs : List X) → ((n : ℕ) (e : E) (x : X) (r : Row) → slice_get es n ≡ Some e → slice_get xs n ≡ Some x → row e x ≡ Some r → R r)
-    → All R (rows_where row es xs)
-rows_all row R [] xs each = All-nil R
-rows_all row R (e ∷ es) [] each = All-nil R
-rows_all row R (e ∷ es) (x ∷ xs) each = before (row e x) (rows_where row es xs) (λ r s. each 0 e x r refl refl s) (rows_all row R es xs (λ n d y r h i s. each (suc n) d y r h i s))
-  where
-    before : (o : Option Row) (rows : List Row) → ((r : Row) → o ≡ Some r → R r) → All R rows → All R (row_before o rows)
-    before None rows f h = h
-    before (Some r) rows f h = All-cons R r rows (f r refl) h
-
--- there are no more rows than entries
-pub rows_few : {E X : Type 0} (row : E → X → Option Row) (es : List E) (xs : List X) → length (rows_where row es xs) ≤ length es
-rows_few row [] xs = omega arith
-rows_few row (e ∷ es) [] = omega arith
-rows_few row (e ∷ es) (x ∷ xs) = before (row e x) (rows_where row es xs) (rows_few row es xs)
-  where
-    before : (o : Option Row) (rows : List Row) → length rows ≤ length es → length (row_before o rows) ≤ suc (length es)
-    before None rows h = omega (arith, h)
-    before (Some r) rows h = omega (arith, h)

@@ -19,14 +19,6 @@ pub(crate) trait Coded {
         ensures { result.now ≡ key self.now };
 }
 
-impl Coded for Code {
-    ghost key = { λ e. e };
-
-    fn code(&self) -> &str {
-        self.as_str()
-    }
-}
-
 impl Coded for (Code, u32) {
     ghost key = { λ e. e.0 };
 
