@@ -1,6 +1,6 @@
 -- A line adds one thing at most.
-use Rattle.std.proofs.Common.{◌≡◌, ℕ, suc, ◌-◌, ◌<◌, ◌≤◌, inl, inr, ℤ, pos, Bool, true, false, cond, List, [], ◌∷◌, length, map, get_or, slice_get, codes, Option, Some, None, decimal, refl, sym, ap, ◌∙◌, subst, arith}
-use Rattle.intake.proofs.Common.{signed_decimal, bytes_eq, cases_order, decimal_injective, signed_decimal_injective, IsPlaceOf, Aim, Greedy, Generous, MAX_QUOTA, code_at, AreApart, Supervisor, Project, Student, project_codes, IsListOf, InRange, Kind, Round, Public, Parts, Rise, IsPlace, IsPrice, Row, choice_code, aim_rows, supervisor_row, project_row, student_row, pair_row, price_row, SectionName, Aims, Supervisors, Projects, Students, Pairs, StudentPrices, ProjectPrices, SupervisorPrices, IsDraft, Adds, AddsEntry, AddsIn, AddsLine, Entry, MayComeNext, IsNext, NextPosition, NextPrice, letter_of, with_entry}
+use Rattle.std.proofs.Common.{◌≡◌, ℕ, suc, ◌-◌, ◌<◌, ◌≤◌, inl, inr, ℤ, pos, Bool, true, false, cond, List, [], ◌∷◌, length, map, get_or, slice_get, codes, Option, Some, None, decimal, refl, sym, ap, ◌∙◌, subst, arith, rules}
+use Rattle.intake.proofs.Common.{signed_decimal, bytes_eq, cases_order, decimal_injective, signed_decimal_injective, IsPlaceOf, Aim, Greedy, Generous, MAX_QUOTA, code_at, AreApart, Supervisor, Project, Student, project_codes, IsListOf, InRange, Kind, Parts, Rise, IsPlace, IsPrice, Row, choice_code, aim_rows, supervisor_row, project_row, student_row, pair_row, price_row, SectionName, Aims, Supervisors, Projects, Students, Pairs, StudentPrices, ProjectPrices, SupervisorPrices, IsDraft, Adds, AddsEntry, AddsIn, AddsLine, Entry, MayComeNext, IsNext, NextPosition, NextPrice, letter_of, with_entry}
 use Rattle.std.proofs.lemmas.List.{map-id}
 use Rattle.intake.proofs.Found.{slice_get_at}
 use Rattle.intake.proofs.Lists.{first_field, other_fields}
@@ -127,15 +127,7 @@ section_of l =
 
 -- it is the one with the letter
 letter_says : (k : Kind) (s : SectionName) → section_of (letter_of k s) ≡ s
-letter_says k Aims = refl
-letter_says k Supervisors = refl
-letter_says k Projects = refl
-letter_says Round Students = refl
-letter_says Public Students = refl
-letter_says k Pairs = refl
-letter_says k StudentPrices = refl
-letter_says k ProjectPrices = refl
-letter_says k SupervisorPrices = refl
+letter_says k s = search rules
 
 -- what fields with the letter of a section add, they add there
 pub adds_in : (k : Kind) (s : SectionName) (old : Parts) (fields row : Row) (new : Parts) → fields ≡ letter_of k s ∷ row → Adds k old fields new → AddsIn k s old row new
