@@ -1,7 +1,7 @@
 -- Lines are read one after the other, and those of each text are.
 use Rattle.std.proofs.Common.{◌≡◌, ℕ, zero, suc, ◌+◌, ◌-◌, ◌≤◌, inl, inr, ℤ, List, [], ◌∷◌, ◌++◌, length, map, get_or, replicate, slice_get, codes, Option, Some, None, All, Contains, refl, sym, ap, ◌∙◌, subst, arith, rules, append_assoc, append-nil}
 use Rattle.intake.proofs.Common.{⊤, AllZip, All-head, All-tail, IsTrue, is_code, map-append, length-append, length_push, length-map, length-replicate, get_or_at, get_or_append_left, Aim, Greedy, Generous, MAX_QUOTA, MAX_SUPERVISORS, MAX_PROJECTS, MAX_STUDENTS, Instance, Supervisor, Project, Student, supervisor_codes, project_codes, student_codes, Kind, Round, Public, SectionName, Aims, Supervisors, Projects, Students, Pairs, StudentPrices, ProjectPrices, SupervisorPrices, Parts, Rise, IsRoll, IsPlace, IsPrice, IsListOf, IsInstance, ArePartsOf, Row, row_before, rows_where, sections, student_letter, aim_rows, supervisor_row, project_row, student_row, pair_row, pair_rows, price_row, price_rows, IsDraft, IsWhole, IsCompleted, AreFirst, StandsAfter, nothing, Adds, AddsIn, NextEntry, NextPosition, NoneOrAll, added, letter_of, zeros}
-use Rattle.intake.proofs.Ends.{placed}
+use Rattle.intake.proofs.Ends.{placed, same_parts}
 use Rattle.intake.proofs.One.{adds_one}
 use Rattle.intake.proofs.Prices.{ArePartsPrices, price_skipped}
 use Rattle.intake.proofs.Sections.{full}
@@ -257,10 +257,6 @@ prices_reads k s key es us put next a =
 abbrev with_all : Parts → List (Option ℕ) → List (List ℤ) → List (List ℤ) → List (List ℤ) → Parts
 with_all p ks us ys zs = record { aim = p.aim; instance = p.instance; places = ks; student_prices = us; project_prices = ys; supervisor_prices = zs }
 
--- the same places and prices
-same_all : (p : Parts) (ks ls : List (Option ℕ)) (us vs ys ws zs xs : List (List ℤ)) → ks ≡ ls → us ≡ vs → ys ≡ ws → zs ≡ xs → with_all p ks us ys zs ≡ with_all p ls vs ws xs
-same_all p ks ls us vs ys ws zs xs a b d e = rw (a, b, d, e) refl
-
 -- the lines of each text are read
 pub reached : (k : Kind) (p : Parts) → ArePartsOf k p → Reached k p
 reached Round p v =
@@ -282,7 +278,7 @@ reached Round p v =
           (reads_append Round (with_all p w.read u.read [] []) (with_all p w.read u.read y.read []) d (map (λ r. codes "Y" ∷ r) (price_rows Round (project_codes i) p.project_prices)) _ y.reads
           (reads_append Round (with_all p w.read u.read y.read []) d d (map (λ r. codes "Z" ∷ r) (price_rows Round (supervisor_codes i) p.supervisor_prices)) [] z.reads refl))));
       whole = (u.complete, (y.complete, (z.complete, tt)));
-      same = same_all p p.places _ p.student_prices u.read p.project_prices y.read p.supervisor_prices z.read (w.are ∙ ap (λ (n : ℕ). w.read ++ replicate n None) rest) (u.same refl) (y.same refl) (z.same refl);
+      same = same_parts p.aim p.aim i i p.places _ p.student_prices u.read p.project_prices y.read p.supervisor_prices z.read refl refl (w.are ∙ ap (λ (n : ℕ). w.read ++ replicate n None) rest) (u.same refl) (y.same refl) (z.same refl);
     }
   where
     unplaced : (e : Student) (x : Option ℕ) → IsPlace e x → pair_row e x ≡ None → (x ≡ None) × ((m n : ℕ) → m ≤ n → m ≤ suc n)

@@ -115,12 +115,10 @@ no_fault p (ListLength n) d h = list_fault p (ListLength n) d h.3
 no_fault p (UnknownProject n k) d h = list_fault p (UnknownProject n k) d h.3
 no_fault p (RepeatedProject n k) d h = list_fault p (RepeatedProject n k) d h.3
 
--- parts of the same instance and places
-pub same_parts : (aim : Aim) (i j : Instance) (ks ls : List (Option ℕ)) (u y z : List (List ℤ)) → i ≡ j → ks ≡ ls
-    → (let p : Parts = record { aim = aim; instance = i; places = ks; student_prices = u; project_prices = y; supervisor_prices = z } in p) ≡ record { aim = aim; instance = j; places = ls; student_prices = u; project_prices = y; supervisor_prices = z }
-same_parts aim i j ks ls u y z e f =
-    ap (λ (i : Instance). let p : Parts = record { aim = aim; instance = i; places = ks; student_prices = u; project_prices = y; supervisor_prices = z } in p) e
-    ∙ ap (λ (ks : List (Option ℕ)). let p : Parts = record { aim = aim; instance = j; places = ks; student_prices = u; project_prices = y; supervisor_prices = z } in p) f
+-- parts of the same aim, instance, places and prices
+pub same_parts : (a b : Aim) (i j : Instance) (ks ls : List (Option ℕ)) (u v y x z w : List (List ℤ)) → a ≡ b → i ≡ j → ks ≡ ls → u ≡ v → y ≡ x → z ≡ w
+    → (let p : Parts = record { aim = a; instance = i; places = ks; student_prices = u; project_prices = y; supervisor_prices = z } in p) ≡ record { aim = b; instance = j; places = ls; student_prices = v; project_prices = x; supervisor_prices = w }
+same_parts a b i j ks ls u v y x z w p q r s t o = rw (p, q, r, s, t, o) refl
 
 -- lines after those of five sections
 after_five : (a b c d e t more : List Row) → a ++ (b ++ (c ++ (d ++ (e ++ (t ++ more))))) ≡ (a ++ (b ++ (c ++ (d ++ (e ++ t))))) ++ more

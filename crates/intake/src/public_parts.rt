@@ -99,7 +99,7 @@ fn post_students(
 ) -> Result<(Vec<Code>, Vec<Option<usize>>), AllocError>
     requires roll { IsRoll (map (λ e. e.0) projects.now) }
     requires lists { All (λ e. IsListOf Public (map (λ e. e.0) projects.now) e.1.items) roll.now }
-    ensures { IfOk result (λ v. ArePostedStudents (map (λ e. e.0) projects.now) (map (λ e. (e.0, e.1.items)) roll.now) v.0.items v.1.items) }
+    ensures { IfOk result (λ v. ArePostedStudents (map (λ e. e.0) projects.now) (map (λ e. e.0) roll.now) (map (λ e. e.1.items) roll.now) v.0.items v.1.items) }
 {
     let mut codes = Vec::with_capacity(alloc, roll.len())?;
     let mut assigned = Vec::with_capacity(alloc, roll.len())?;

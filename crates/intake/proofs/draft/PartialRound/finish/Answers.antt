@@ -1,4 +1,4 @@
-use Rattle.std.proofs.Common.{◌≡◌, ℕ, ◌++◌, ◌-◌, length, replicate, None, sym, ap, subst, ◌∙◌, arith, rules}
+use Rattle.std.proofs.Common.{◌≡◌, ℕ, ◌++◌, ◌-◌, length, replicate, None, refl, sym, ap, subst, ◌∙◌, arith, rules}
 use Rattle.intake.proofs.Common.{IsPlace, IsRoundParts, Round, lines_of, draft_of}
 use Rattle.intake.proofs.Rolls.{student_count}
 use Rattle.intake.proofs.Ends.{whole_parts, no_fault, placed_lines, same_parts}
@@ -17,10 +17,10 @@ pub returns-in-Ok-clause-parts : goal.returns-in-Ok-clause-parts
 returns-in-Ok-clause-parts c =
     let len : c.len.result ≡ length c.args.self.students.items = search (rules) in
     let full = c.in_ok-fill.ensures ∙ ap (λ (n : ℕ). c.args.self.places.items ++ replicate (n - length c.args.self.places.items) None) (len ∙ sym (student_count c.args.self.students.items)) in
-    subst IsRoundParts (sym (same_parts _ _ _ _ _ _ _ _ c.in-Ok.ensures.made full)) (whole_parts _ c.requires.draft c.requires.whole)
+    subst IsRoundParts (sym (same_parts _ _ _ _ _ _ _ _ _ _ _ _ refl c.in-Ok.ensures.made full refl refl refl)) (whole_parts _ c.requires.draft c.requires.whole)
 
 pub returns-in-Ok-clause-lines : goal.returns-in-Ok-clause-lines
 returns-in-Ok-clause-lines c =
     let len : c.len.result ≡ length c.args.self.students.items = search (rules) in
     let full = c.in_ok-fill.ensures ∙ ap (λ (n : ℕ). c.args.self.places.items ++ replicate (n - length c.args.self.places.items) None) (len ∙ sym (student_count c.args.self.students.items)) in
-    ap (lines_of Round) (same_parts _ _ _ _ _ _ _ _ c.in-Ok.ensures.made full) ∙ placed_lines (draft_of c.args.self)
+    ap (lines_of Round) (same_parts _ _ _ _ _ _ _ _ _ _ _ _ refl c.in-Ok.ensures.made full refl refl refl) ∙ placed_lines (draft_of c.args.self)
