@@ -1,11 +1,14 @@
 -- The order of codes, and a search in codes that rise.
-use Rattle.std.proofs.Common.{◌≡◌, ◌≢◌, ℕ, zero, suc, ◌+◌, ◌-◌, ◌<◌, ◌≤◌, length-append, List, [], ◌∷◌, ◌++◌, length, map, get_or, slice_get, Some, None, refl, sym, ap, ◌∙◌, subst, inl, inr, arith}
+use Rattle.std.proofs.Common.{◌≡◌, ◌≢◌, ℕ, zero, suc, ◌+◌, ◌-◌, ◌<◌, length-append, List, [], ◌∷◌, ◌++◌, length, map, get_or, slice_get, Some, Result, Ok, Err, refl, sym, ap, ◌∙◌, subst, inl, inr, arith}
 use Rattle.std.specs.declared.cmp.Ordering.{Ordering}
-use Rattle.intake.proofs.Common.{Less, Equal, Greater, Bool, true, IsTrue, cases_lt, get_or_default, get_or_append_left, get_or_at, length-map, Finds, code_cmp, Rise}
+use Rattle.intake.proofs.Common.{Less, Equal, Greater, Bool, true, IsTrue, cases_lt, get_or-map, get_or_default, get_or_append_left, get_or_at, length-map, Finds, code_cmp, Rise}
 use Rattle.std.specs.FinMap.{slice_cmp-IsAntisymmetric, nat_cmp-IsAntisymmetric}
+use Rattle.std.specs.List.Sorted.{IsBinarySearchResult, IsSearchInRange}
 use Rattle.std.specs.Ordering.{ordering_reverse, is_lt}
+use Rattle.std.specs.Result.{result_ok}
 use Rattle.std.proofs.lemmas.Cmp.{nat_list_cmp_total, tied_itself}
 use Rattle.std.proofs.lemmas.List.Quantifiers.{all_pairs_push}
+use Rattle.std.proofs.lemmas.List.Sorted.{searchable_from_sorted}
 
 -- codes that compare as equal are the same
 pub cmp_same : (a b : List ℕ) → code_cmp a b ≡ Equal → a ≡ b
@@ -14,10 +17,6 @@ cmp_same a b e = slice_cmp-IsAntisymmetric nat_cmp-IsAntisymmetric a b e
 -- a code is the same as itself
 pub cmp_itself : (a : List ℕ) → code_cmp a a ≡ Equal
 cmp_itself a = tied_itself nat_list_cmp_total a
-
--- the order, read the other way round
-pub cmp_back : (a b : List ℕ) → code_cmp a b ≡ Greater → code_cmp b a ≡ Less
-cmp_back a b e = nat_list_cmp_total.antisymm b a ∙ ap ordering_reverse e
 
 -- the order of three
 pub cmp_trans : (a b d : List ℕ) → code_cmp a b ≡ Less → code_cmp b d ≡ Less → code_cmp a d ≡ Less
@@ -33,56 +32,37 @@ get_found [] p code d e = cc
 get_found (k ∷ keys) zero code d e = cc
 get_found (k ∷ keys) (suc p) code d e = get_found keys p code d e
 
--- the codes before low come before the code, and those from high on after it
-pub record Searched (keys : List (List ℕ)) (code : List ℕ) (low high : ℕ) : Type 0 where
-  pub within : high ≤ length keys
-  pub before : (p : ℕ) (d : List ℕ) → p < low → code_cmp (get_or keys p d) code ≡ Less
-  pub after : (p : ℕ) (d : List ℕ) → high ≤ p → p < length keys → code_cmp code (get_or keys p d) ≡ Less
+-- the entry at a position, whose code compares as equal
+code_found : {E : Type 0} (key : E → List ℕ) (es : List E) (code : List ℕ) (p : ℕ) → p < length es → ((d : E) → code_cmp (key (get_or es p d)) code ≡ Equal) → slice_get (map key es) p ≡ Some code
+code_found key [] code p h tied = absurd (omega arith)
+code_found key (x ∷ es) code zero h tied = ap Some (cmp_same (key x) code (tied x))
+code_found key (x ∷ es) code (suc p) h tied = code_found key es code p (omega arith) tied
 
--- the code comes before the one at m
-pub searched_less : (keys : List (List ℕ)) (code : List ℕ) (low high m : ℕ) (d : List ℕ) → Rise keys → m < high → Searched keys code low high → code_cmp code (get_or keys m d) ≡ Less → Searched keys code low m
-searched_less keys code low high m d rise h s e =
-    let w = s.within in
-    record {
-      within = omega arith;
-      before = s.before;
-      after = λ p f l k. elim (cases_lt m p) [
-        | inl less ↦ cmp_trans code (get_or keys m f) (get_or keys p f) (subst (λ (x : List ℕ). code_cmp code x ≡ Less) (get_or_default keys m d f (omega arith)) e) (rise m p f less k)
-        | inr more ↦ let same : m ≡ p = omega arith in subst (λ (q : ℕ). code_cmp code (get_or keys q f) ≡ Less) same (subst (λ (x : List ℕ). code_cmp code x ≡ Less) (get_or_default keys m d f (omega arith)) e)
-      ];
-    }
+-- no entry whose code compares otherwise has it
+code_missed : {E : Type 0} (key : E → List ℕ) (es : List E) (code : List ℕ) (p : ℕ) (o : Ordering) → o ≢ Equal → ((d : E) → code_cmp (key (get_or es p d)) code ≡ o) → slice_get (map key es) p ≡ Some code → ⊥
+code_missed key [] code p o other compared e = cc
+code_missed key (x ∷ es) code zero o other compared e = (let same : key x ≡ code = cc in other (sym (compared x) ∙ ap (λ (c : List ℕ). code_cmp c code) same ∙ cmp_itself code))
+code_missed key (x ∷ es) code (suc p) o other compared e = code_missed key es code p o other compared e
 
--- the code comes after the one at m
-pub searched_greater : (keys : List (List ℕ)) (code : List ℕ) (low high m : ℕ) (d : List ℕ) → Rise keys → m < high → Searched keys code low high → code_cmp code (get_or keys m d) ≡ Greater → Searched keys code (m + 1) high
-searched_greater keys code low high m d rise h s e =
-    let w = s.within in
-    record {
-      within = s.within;
-      before = λ p f l. elim (cases_lt p m) [
-        | inl less ↦ cmp_trans (get_or keys p f) (get_or keys m f) code (rise p m f less (omega arith)) (subst (λ (x : List ℕ). code_cmp x code ≡ Less) (get_or_default keys m d f (omega arith)) (cmp_back code (get_or keys m d) e))
-        | inr more ↦ let same : m ≡ p = omega arith in subst (λ (q : ℕ). code_cmp (get_or keys q f) code ≡ Less) same (subst (λ (x : List ℕ). code_cmp x code ≡ Less) (get_or_default keys m d f (omega arith)) (cmp_back code (get_or keys m d) e))
-      ];
-      after = s.after;
-    }
-
--- nothing is left to search
-pub searched_all : (keys : List (List ℕ)) (code : List ℕ) (low high n : ℕ) → high ≤ low → Searched keys code low high → n ≡ length keys → Finds keys n code None
-searched_all keys code low high n h s e p l same =
-    let is : get_or keys p [] ≡ code = get_found keys p code [] same in
-    elim (cases_lt p low) [
-      | inl less ↦ cmp_apart (get_or keys p []) code (s.before p [] less) is
-      | inr more ↦ cmp_apart code (get_or keys p []) (s.after p [] (omega arith) (omega arith)) (sym is)
+-- what a search by halves finds
+pub found : {E : Type 0} (key : E → List ℕ) (es : List E) (code : List ℕ) (r : Result ℕ ℕ) → Rise (map key es) → IsSearchInRange r (length es) → IsBinarySearchResult (λ e. code_cmp (key e) code) es r
+    → Finds (map key es) (length es) code (result_ok r)
+found key es code (Ok p) rise h tied = (h, code_found key es code p h tied)
+found {E = E} key es code (Err p) rise h parted = λ q l same.
+    let sides = parted (searchable_from_sorted nat_list_cmp_total key es code (λ n d l w. ap is_lt (nat_list_cmp_total.antisymm (key (get_or es (n + 1) d)) (key (get_or es n d)) ∙ ap ordering_reverse (next n d w)))) in
+    elim (cases_lt q p) [
+      | inl less ↦ code_missed key es code q Less (λ e. cc) (λ d. sides.0 q d (omega arith) less) same
+      | inr past ↦ code_missed key es code q Greater (λ e. cc) (λ d. sides.1 q d past l) same
     ]
+  where
+    next : (n : ℕ) (d : E) → n + 1 < length es → code_cmp (key (get_or es n d)) (key (get_or es (n + 1) d)) ≡ Less
+    next n d w = rw (sym (get_or-map key es n d [] (omega arith)), sym (get_or-map key es (n + 1) d [] w)) (rise n (n + 1) [] (omega arith) (omega (arith, length-map es key)))
 
 -- the code at m, of entries that have codes
 pub key_read : {E : Type 0} (key : E → List ℕ) (es : List E) (m : ℕ) (e : E) → m < length es → e ≡ get_or es m e → slice_get (map key es) m ≡ Some (key e)
 key_read key [] m e h r = absurd (omega arith)
 key_read key (x ∷ es) zero e h r = ap (λ y. Some (key y)) (sym r)
 key_read key (x ∷ es) (suc m) e h r = key_read key es m e (omega arith) r
-
--- entries and their codes are as many
-pub key_count : {E : Type 0} (key : E → List ℕ) (es : List E) → length es ≡ length (map key es)
-key_count key es = sym (length-map es key)
 
 -- the code of the last entry
 pub last_key : {E : Type 0} (key : E → List ℕ) (es : List E) (e : E) → Some e ≡ slice_get es (length es - 1) → (d : List ℕ) → get_or (map key es) (length (map key es) - 1) d ≡ key e
@@ -108,17 +88,6 @@ pub rise_back : (keys : List (List ℕ)) (code : List ℕ) (d : List ℕ) → 0 
 rise_back keys code d h rise =
     let e : code_cmp (get_or (keys ++ code ∷ []) (length keys - 1) d) (get_or (keys ++ code ∷ []) (length keys) d) ≡ Less = rise (length keys - 1) (length keys) d (omega arith) (omega (arith, length-append keys (code ∷ []))) in
     rw (get_or_append_left keys (code ∷ []) d (length keys - 1) (omega arith), get_or_at keys code [] d (length keys) refl) at e
-
--- what a comparison with the code of an entry says
-pub key_compared : {E : Type 0} (key : E → List ℕ) (es : List E) (m : ℕ) (e : E) (code at : List ℕ) (r o : Ordering) → m < length es → e ≡ get_or es m e → at ≡ key e → r ≡ code_cmp code at → r ≡ o
-    → code_cmp code (get_or (map key es) m code) ≡ o
-key_compared key es m e code at r o h read is compared found =
-    ap (code_cmp code) (get_found (map key es) m (key e) code (key_read key es m e h read) ∙ sym is) ∙ sym compared ∙ found
-
--- a code that compares as equal is the one of the entry
-pub key_equal : {E : Type 0} (key : E → List ℕ) (es : List E) (m : ℕ) (e : E) (code at : List ℕ) (r : Ordering) → m < length es → e ≡ get_or es m e → at ≡ key e → r ≡ code_cmp code at → r ≡ Equal
-    → slice_get (map key es) m ≡ Some code
-key_equal key es m e code at r h read is compared found = key_read key es m e h read ∙ ap Some (sym is ∙ sym (cmp_same code at (sym compared ∙ found)))
 
 -- a comparison that tests as less is
 less_of : (o : Ordering) → is_lt o ≡ true → o ≡ Less

@@ -8,7 +8,6 @@ ghost use Rattle.intake.specs.Inside.Entries.{ComesNext};
 
 use crate::fields::read_code;
 use spa::Code;
-use std::cmp::Ordering;
 
 /// An entry of a roll.
 pub(crate) trait Coded {
@@ -48,17 +47,7 @@ pub(crate) fn position_of<E: Coded>(roll: &[E], code: &str) -> Option<usize>
     requires { Rise (map E.key roll.now) }
     ensures { Finds (map E.key roll.now) (length roll.now) code.now result }
 {
-    let mut low = 0;
-    let mut high = roll.len();
-    while low < high {
-        let middle = low + (high - low) / 2;
-        match code.cmp(roll[middle].code()) {
-            Ordering::Less => high = middle,
-            Ordering::Equal => return Some(middle),
-            Ordering::Greater => low = middle + 1,
-        }
-    }
-    None
+    roll.binary_search_by(|entry| entry.code().cmp(code)).ok()
 }
 
 /// Whether a code comes after all of a roll.
