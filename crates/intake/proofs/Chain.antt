@@ -1,6 +1,6 @@
 -- Lines are read one after the other, and those of each text are.
 use Rattle.std.proofs.Common.{◌≡◌, ℕ, zero, suc, ◌+◌, ◌-◌, ◌≤◌, inl, inr, ℤ, List, [], ◌∷◌, ◌++◌, length, map, get_or, replicate, slice_get, codes, Option, Some, None, All, Contains, refl, sym, ap, ◌∙◌, subst, arith, rules, append_assoc, append-nil}
-use Rattle.intake.proofs.Common.{⊤, AllZip, All-head, All-tail, IsTrue, is_code, map-append, length-append, length_push, length-map, length-replicate, get_or_at, get_or_append_left, Aim, Greedy, Generous, MAX_QUOTA, MAX_SUPERVISORS, MAX_PROJECTS, MAX_STUDENTS, Instance, Supervisor, Project, Student, supervisor_codes, project_codes, student_codes, Kind, Round, Public, SectionName, Aims, Supervisors, Projects, Students, Pairs, StudentPrices, ProjectPrices, SupervisorPrices, Parts, Rise, IsRoll, IsPlace, IsPrice, IsListOf, IsInstance, ArePartsOf, Row, row_before, rows_where, sections, student_letter, aim_rows, supervisor_row, project_row, student_row, pair_row, pair_rows, price_row, price_rows, IsDraft, IsWhole, IsCompleted, AreFirst, StandsAfter, nothing, Adds, AddsIn, NextEntry, NextPosition, NoneOrAll, added, letter_of, zeros}
+use Rattle.intake.proofs.Common.{⊤, slice_get_at, AllZip, All-head, All-tail, IsTrue, is_code, map-append, length-append, length_push, length-map, length-replicate, get_or_at, get_or_append_left, Aim, Greedy, Generous, MAX_QUOTA, MAX_SUPERVISORS, MAX_PROJECTS, MAX_STUDENTS, Instance, Supervisor, Project, Student, supervisor_codes, project_codes, student_codes, Kind, Round, Public, SectionName, Aims, Supervisors, Projects, Students, Pairs, StudentPrices, ProjectPrices, SupervisorPrices, Parts, Rise, IsRoll, IsPlace, IsPrice, IsListOf, IsInstance, ArePartsOf, Row, row_before, rows_where, sections, student_letter, aim_rows, supervisor_row, project_row, student_row, pair_row, pair_rows, price_row, price_rows, IsDraft, IsWhole, IsCompleted, AreFirst, StandsAfter, nothing, Adds, AddsIn, NextEntry, NextPosition, NoneOrAll, added, letter_of, zeros}
 use Rattle.intake.proofs.Ends.{placed, same_parts}
 use Rattle.intake.proofs.One.{adds_one}
 use Rattle.intake.proofs.Prices.{ArePartsPrices, price_skipped}
@@ -86,9 +86,7 @@ added_length b xs n x h = omega (arith, length_push (xs ++ replicate (n - length
 
 -- what is found past others
 found_past : {X : Type 0} (front : List X) (x : X) (back : List X) (n : ℕ) → n ≡ length front → slice_get (front ++ x ∷ back) n ≡ Some x
-found_past [] x back n e = ap (slice_get (x ∷ back)) e
-found_past (y ∷ front) x back zero e = cc
-found_past (y ∷ front) x back (suc n) e = found_past front x back n (omega arith)
+found_past front x back n e = slice_get_at (front ++ x ∷ back) n x x (omega (arith, e, length-append front (x ∷ back))) (get_or_at front x back x n (sym e))
 
 -- one more of the same, in front
 replicate_shift : {X : Type 0} (n : ℕ) (b : X) (xs : List X) → replicate n b ++ b ∷ xs ≡ replicate (suc n) b ++ xs

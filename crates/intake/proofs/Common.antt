@@ -11,6 +11,7 @@ pub use Rattle.intake.specs.declared.section.Kind.{Kind}
 pub use Rattle.intake.specs.declared.section.Kind.TheVariants.{Round, Public}
 pub use Rattle.intake.specs.declared.section.SectionName.{SectionName}
 pub use Rattle.intake.specs.declared.section.SectionName.TheVariants.{Aims, Pairs, ProjectPrices, Projects, StudentPrices, Students, SupervisorPrices, Supervisors}
+pub use Rattle.spa.proofs.Places.{slice_get_at}
 pub use Rattle.spa.proofs.Texts.{code_bytes, code_utf8}
 pub use Rattle.spa.specs.Codes.{AreApart, IsFirstRepeated, code_at}
 pub use Rattle.spa.specs.Inside.Codes.{Finds}
@@ -32,12 +33,14 @@ pub use Rattle.std.proofs.lemmas.List.{append_cancel_right, drop-drop, drop_all,
 pub use Rattle.std.proofs.lemmas.List.Concat.{flat_map-append}
 pub use Rattle.std.proofs.lemmas.List.Elements.{All-append, All-cons, All-contains, All-head, All-map, All-nil, All-push, All-replicate, All-tail}
 pub use Rattle.std.proofs.lemmas.List.Splits.{join_with_byte-slice_split, length-slice_split, slice_split-cons_no, slice_split-cons_yes, slice_split_at, slice_split_none}
+pub use Rattle.std.proofs.lemmas.Option.{get_or_from_slice_get, slice_get-map, slice_get_read, slice_get_within}
 pub use Rattle.std.proofs.lemmas.Result.{IfOk-weaker, err_from_is_err_and}
+pub use Rattle.std.proofs.lemmas.Simd.{map-map}
 pub use Rattle.std.proofs.lemmas.Slice.Eq.{bytes_eq-Decides}
 pub use Rattle.std.specs.Cmp.{first_so, second_so}
 pub use Rattle.std.specs.Fmt.{signed_decimal}
 pub use Rattle.std.specs.List.{AllZip, join_with_byte, list_all, onto_first, slice_split}
-pub use Rattle.std.specs.Prelude.{AllPairs, Bool, IsTrue, nat_le, slice_index, true, ⊤, ◌&&◌, ◌-ℤ◌, ◌==◌}
+pub use Rattle.std.specs.Prelude.{AllPairs, Bool, IsTrue, nat_le, option_map, slice_index, true, ⊤, ◌&&◌, ◌-ℤ◌, ◌==◌}
 pub use Rattle.std.specs.Str.{IsUtf8, bytes_eq}
 pub use Rattle.std.specs.declared.cmp.Ordering.TheVariants.{Equal, Greater, Less}
 pub use Rattle.verdict.specs.Rows.{AllInRange, EachInRange, InRange}

@@ -1,14 +1,12 @@
 -- A draft may be completed, and a complete one is the parts of its text.
 use Rattle.std.proofs.Common.{◌≡◌, ℕ, zero, suc, ◌+◌, ◌-◌, ◌<◌, ℤ, List, [], ◌∷◌, ◌++◌, length, map, flat_map, get_or, replicate, codes, Option, Some, None, All, Contains, slice_get, refl, sym, ap, ◌∙◌, subst, arith, append-nil, append_assoc}
-use Rattle.intake.proofs.Common.{AllZip, map-append, length-map, All-map, Aim, Instance, Kind, Round, Public, Supervisor, Project, Student, supervisor_codes, project_codes, student_codes, IsFirstRepeated, IsListOf, IsFirstUnknown, IsListFault, IsFirstListFault, IsFirstInstanceFault, Parts, Rise, IsPlace, IsPrice, ArePricesOrNone, ArePricesUpTo, IsPublicText, IsRoundParts, Row, line, lines_of, section_lines, sections, priced, price_section, pair_row, pair_rows, aim_rows, supervisor_row, project_row, student_row, BeginsLines, IsDraft, IsWhole, AreFirst}
+use Rattle.intake.proofs.Common.{slice_get_at, slice_get_within, AllZip, map-append, length-map, All-map, Aim, Instance, Kind, Round, Public, Supervisor, Project, Student, supervisor_codes, project_codes, student_codes, IsFirstRepeated, IsListOf, IsFirstUnknown, IsListFault, IsFirstListFault, IsFirstInstanceFault, Parts, Rise, IsPlace, IsPrice, ArePricesOrNone, ArePricesUpTo, IsPublicText, IsRoundParts, Row, line, lines_of, section_lines, sections, priced, price_section, pair_row, pair_rows, aim_rows, supervisor_row, project_row, student_row, BeginsLines, IsDraft, IsWhole, AreFirst}
 use Rattle.spa.specs.declared.fault.Roll.TheVariants.{Supervisors, Projects, Students}
 use Rattle.spa.specs.declared.fault.InstanceFault.{InstanceFault}
 use Rattle.spa.specs.declared.fault.InstanceFault.TheVariants.{Memory, Limit, RepeatedCode, UnknownSupervisor, ListLength, UnknownProject, RepeatedProject}
-use Rattle.intake.proofs.Found.{slice_get_at}
 use Rattle.intake.proofs.PairLine.{one_place, all_found}
 use Rattle.intake.proofs.Pieces.{line_of}
 use Rattle.intake.proofs.Prices.{all_filled, filled, filled_prices, filled_same, first_prices}
-use Rattle.intake.proofs.Rolls.{within_get}
 use Rattle.intake.proofs.Sections.{full, full_lines}
 use Rattle.intake.proofs.Where.{blank_after, first_few}
 
@@ -99,7 +97,7 @@ list_fault p fault d f =
     go (UnknownSupervisor n) s list h sound = absurd h
     go (ListLength n) s list h sound = (let few = sound.0 in absurd (h.1 (omega arith, few.1)))
     go (UnknownProject n zero) s list h sound = absurd h
-    go (UnknownProject n (suc k)) s list h sound = absurd (h.3.unknown (sound.1.known k h.3.code (within_get list k h.3.code h.3.here) h.3.here))
+    go (UnknownProject n (suc k)) s list h sound = absurd (h.3.unknown (sound.1.known k h.3.code (slice_get_within list k h.3.code h.3.here) h.3.here))
     go (RepeatedProject n zero) s list h sound = absurd h
     go (RepeatedProject n (suc k)) s list h sound = absurd (sound.1.apart h.3.earlier k h.3.is_before h.3.known h.3.same)
 

@@ -4,7 +4,6 @@ pub mod Alone
 mod Bad
 mod Ends
 mod Widths
-mod Found
 mod Plain
 mod Lists
 mod Numbers

@@ -1,7 +1,6 @@
 -- A list of projects, read field by field.
 use Rattle.std.proofs.Common.{◌≡◌, ◌≢◌, ℕ, zero, suc, ◌+◌, ◌<◌, List, [], ◌∷◌, ◌++◌, length, map, get_or, take, slice_get, Option, Some, None, refl, sym, ap, ◌∙◌, arith}
-use Rattle.intake.proofs.Common.{Bor, take_more, length-take-le, length-map, map-append, Finds, IsSoundUpTo, IsListOf, Kind, Rise}
-use Rattle.intake.proofs.Order.{get_found}
+use Rattle.intake.proofs.Common.{get_or_from_slice_get, Bor, take_more, length-take-le, length-map, map-append, Finds, IsSoundUpTo, IsListOf, Kind, Rise}
 use Rattle.intake.proofs.PairLine.{one_place}
 use Rattle.intake.proofs.Rolls.{known_more, apart_more, contained, standing}
 
@@ -47,7 +46,7 @@ sound_more codes list seen n k p code h here e so_far known fresh =
 
 -- and of what was read
 pub read_more : (list seen new : List (List ℕ)) (k : ℕ) (code : List ℕ) → k < length list → slice_get list k ≡ Some code → seen ≡ take k list → new ≡ seen ++ code ∷ [] → new ≡ take (k + 1) list
-read_more list seen new k code h here e f = f ∙ ap (λ (l : List (List ℕ)). l ++ code ∷ []) e ∙ ap (λ (c : List ℕ). take k list ++ c ∷ []) (sym (get_found list k code [] here)) ∙ sym (take_more list k [] h)
+read_more list seen new k code h here e f = f ∙ ap (λ (l : List (List ℕ)). l ++ code ∷ []) e ∙ ap (λ (c : List ℕ). take k list ++ c ∷ []) (sym (get_or_from_slice_get list k code [] here)) ∙ sym (take_more list k [] h)
 
 -- the codes that were read stand at these positions
 abbrev pub StandAt : List (List ℕ) → List ℕ → List (List ℕ) → Type 0

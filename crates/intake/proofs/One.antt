@@ -1,11 +1,11 @@
 -- A line adds one thing at most.
 use Rattle.std.proofs.Common.{◌≡◌, ℕ, suc, ◌-◌, ◌<◌, ◌≤◌, inl, inr, ℤ, pos, Bool, true, false, cond, List, [], ◌∷◌, length, map, get_or, slice_get, codes, Option, Some, None, decimal, refl, sym, ap, ◌∙◌, subst, arith, rules}
-use Rattle.intake.proofs.Common.{signed_decimal, bytes_eq, cases_order, decimal_injective, signed_decimal_injective, IsPlaceOf, Aim, Greedy, Generous, MAX_QUOTA, code_at, AreApart, Supervisor, Project, Student, project_codes, IsListOf, InRange, Kind, Parts, Rise, IsPlace, IsPrice, Row, choice_code, aim_rows, supervisor_row, project_row, student_row, pair_row, price_row, SectionName, Aims, Supervisors, Projects, Students, Pairs, StudentPrices, ProjectPrices, SupervisorPrices, IsDraft, Adds, AddsEntry, AddsIn, AddsLine, Entry, MayComeNext, IsNext, NextPosition, NextPrice, letter_of, with_entry}
+use Rattle.intake.proofs.Common.{slice_get_at, signed_decimal, bytes_eq, cases_order, decimal_injective, signed_decimal_injective, IsPlaceOf, Aim, Greedy, Generous, MAX_QUOTA, code_at, AreApart, Supervisor, Project, Student, project_codes, IsListOf, InRange, Kind, Parts, Rise, IsPlace, IsPrice, Row, choice_code, aim_rows, supervisor_row, project_row, student_row, pair_row, price_row, SectionName, Aims, Supervisors, Projects, Students, Pairs, StudentPrices, ProjectPrices, SupervisorPrices, IsDraft, Adds, AddsEntry, AddsIn, AddsLine, Entry, MayComeNext, IsNext, NextPosition, NextPrice, letter_of, with_entry}
 use Rattle.std.proofs.lemmas.List.{map-id}
-use Rattle.intake.proofs.Found.{slice_get_at}
 use Rattle.intake.proofs.Lists.{first_field, other_fields}
 use Rattle.intake.proofs.Numbers.{small}
-use Rattle.intake.proofs.PairLine.{all_found, get_mapped, one_place}
+use Rattle.intake.proofs.Order.{get_mapped}
+use Rattle.intake.proofs.PairLine.{all_found, one_place}
 use Rattle.intake.proofs.Prices.{price_head, price_is}
 use Rattle.intake.proofs.Where.{code_of}
 

@@ -1,7 +1,7 @@
 -- The order of codes, and a search in codes that rise.
 use Rattle.std.proofs.Common.{◌≡◌, ◌≢◌, ℕ, zero, suc, ◌+◌, ◌-◌, ◌<◌, length-append, List, [], ◌∷◌, ◌++◌, length, map, get_or, slice_get, Some, Result, Ok, Err, refl, sym, ap, ◌∙◌, subst, inl, inr, arith}
 use Rattle.std.specs.declared.cmp.Ordering.{Ordering}
-use Rattle.intake.proofs.Common.{Less, Equal, Greater, Bool, true, IsTrue, cases_lt, get_or-map, get_or_default, get_or_append_left, get_or_at, length-map, Finds, code_cmp, Rise}
+use Rattle.intake.proofs.Common.{get_or_from_slice_get, option_map, slice_get-map, slice_get_read, Less, Equal, Greater, Bool, true, IsTrue, cases_lt, get_or-map, get_or_default, get_or_append_left, get_or_at, length-map, Finds, code_cmp, Rise}
 use Rattle.std.specs.FinMap.{slice_cmp-IsAntisymmetric, nat_cmp-IsAntisymmetric}
 use Rattle.std.specs.List.Sorted.{IsBinarySearchResult, IsSearchInRange}
 use Rattle.std.specs.Ordering.{ordering_reverse, is_lt}
@@ -25,12 +25,6 @@ cmp_trans a b d e f = nat_list_cmp_total.trans a b d e f
 -- a code is not before itself
 pub cmp_apart : (a b : List ℕ) → code_cmp a b ≡ Less → a ≢ b
 cmp_apart a b e same = let itself = cmp_itself b in let f : code_cmp b b ≡ Less = subst (λ (x : List ℕ). code_cmp x b ≡ Less) same e in cc
-
--- a look-up that finds a code reads it
-pub get_found : (keys : List (List ℕ)) (p : ℕ) (code d : List ℕ) → slice_get keys p ≡ Some code → get_or keys p d ≡ code
-get_found [] p code d e = cc
-get_found (k ∷ keys) zero code d e = cc
-get_found (k ∷ keys) (suc p) code d e = get_found keys p code d e
 
 -- the entry at a position, whose code compares as equal
 code_found : {E : Type 0} (key : E → List ℕ) (es : List E) (code : List ℕ) (p : ℕ) → p < length es → ((d : E) → code_cmp (key (get_or es p d)) code ≡ Equal) → slice_get (map key es) p ≡ Some code
@@ -58,20 +52,13 @@ found {E = E} key es code (Err p) rise h parted = λ q l same.
     next : (n : ℕ) (d : E) → n + 1 < length es → code_cmp (key (get_or es n d)) (key (get_or es (n + 1) d)) ≡ Less
     next n d w = rw (sym (get_or-map key es n d [] (omega arith)), sym (get_or-map key es (n + 1) d [] w)) (rise n (n + 1) [] (omega arith) (omega (arith, length-map es key)))
 
--- the code at m, of entries that have codes
-pub key_read : {E : Type 0} (key : E → List ℕ) (es : List E) (m : ℕ) (e : E) → m < length es → e ≡ get_or es m e → slice_get (map key es) m ≡ Some (key e)
-key_read key [] m e h r = absurd (omega arith)
-key_read key (x ∷ es) zero e h r = ap (λ y. Some (key y)) (sym r)
-key_read key (x ∷ es) (suc m) e h r = key_read key es m e (omega arith) r
+-- what is found of a list that is made from another
+pub get_mapped : {X Y : Type 0} (f : X → Y) (xs : List X) (n : ℕ) (x : X) → slice_get xs n ≡ Some x → slice_get (map f xs) n ≡ Some (f x)
+get_mapped f xs n x e = slice_get-map f xs n ∙ ap (option_map f) e
 
--- the code of the last entry
-pub last_key : {E : Type 0} (key : E → List ℕ) (es : List E) (e : E) → Some e ≡ slice_get es (length es - 1) → (d : List ℕ) → get_or (map key es) (length (map key es) - 1) d ≡ key e
-last_key key es e r d = ap (λ n. get_or (map key es) (n - 1) d) (length-map es key) ∙ found key es (length es - 1) e r d
-  where
-    found : {E : Type 0} (key : E → List ℕ) (es : List E) (m : ℕ) (e : E) → Some e ≡ slice_get es m → (d : List ℕ) → get_or (map key es) m d ≡ key e
-    found key [] m e r d = cc
-    found key (x ∷ es) zero e r d = cc
-    found key (x ∷ es) (suc m) e r d = found key es m e r d
+-- the code at m, of entries that have codes
+pub key_at : {E : Type 0} (key : E → List ℕ) (es : List E) (m : ℕ) (e : E) → m < length es → e ≡ get_or es m e → get_or (map key es) m [] ≡ key e
+key_at key es m e h r = get_or_from_slice_get (map key es) m (key e) [] (get_mapped key es m e (slice_get_read es (length es) m e refl h r))
 
 -- a code after the last goes on
 pub rise_next : (keys : List (List ℕ)) (code : List ℕ) (d : List ℕ) → Rise keys → code_cmp (get_or keys (length keys - 1) d) code ≡ Less → Rise (keys ++ code ∷ [])
@@ -99,7 +86,7 @@ less_of Greater h = cc
 pub is_next_of : {E : Type 0} (key : E → List ℕ) (es : List E) (e : E) (code at : List ℕ) (o : Ordering) (r : Bool) → Rise (map key es) → Some e ≡ slice_get es (length es - 1) → at ≡ key e → o ≡ code_cmp at code → r ≡ is_lt o
     → (IsTrue r → Rise (map key es ++ code ∷ [])) × (Rise (map key es ++ code ∷ []) → IsTrue r)
 is_next_of key es e code at o r rise last is compared test =
-    let at_last : get_or (map key es) (length (map key es) - 1) code ≡ at = last_key key es e last code ∙ sym is in
+    let at_last : get_or (map key es) (length (map key es) - 1) code ≡ at = ap (λ (n : ℕ). get_or (map key es) (n - 1) code) (length-map es key) ∙ get_or_from_slice_get (map key es) (length es - 1) (key e) code (get_mapped key es (length es - 1) e (sym last)) ∙ sym is in
     let many : 0 < length (map key es) = omega (arith, length-map es key, some_length es (length es - 1) e last) in (
       λ t. rise_next (map key es) code code rise (ap (λ (k : List ℕ). code_cmp k code) at_last ∙ sym compared ∙ less_of o (sym test ∙ t)),
       λ more. test ∙ ap is_lt (compared ∙ ap (λ (k : List ℕ). code_cmp k code) (sym at_last) ∙ rise_back (map key es) code code many more),
@@ -108,7 +95,3 @@ is_next_of key es e code at o r rise last is compared test =
     some_length : {E : Type 0} (es : List E) (m : ℕ) (e : E) → Some e ≡ slice_get es m → 0 < length es
     some_length [] m e h = cc
     some_length (x ∷ es) m e h = omega arith
-
--- the code of an entry that was read
-pub key_at : {E : Type 0} (key : E → List ℕ) (es : List E) (m : ℕ) (e : E) → m < length es → e ≡ get_or es m e → get_or (map key es) m [] ≡ key e
-key_at key es m e h read = get_found (map key es) m (key e) [] (key_read key es m e h read)

@@ -1,15 +1,7 @@
 -- What a pair's line refers to.
-use Rattle.std.proofs.Common.{◌≡◌, ℕ, zero, suc, ◌-◌, ◌<◌, ◌≤◌, List, [], ◌∷◌, length, map, get_or, slice_get, Option, Some, None, Vec, Global, All, sym, ap, ◌∙◌, subst, inl, inr, arith}
-use Rattle.intake.proofs.Common.{cases_order, RANKS, IsPlaceOf, Code, Finds, Student, students_of, student_codes, Parts, Rise, choice_code, NextPair}
-use Rattle.intake.proofs.Found.{slice_get_at}
-use Rattle.intake.proofs.Order.{get_found, cmp_apart}
-use Rattle.intake.proofs.Rolls.{within_get}
-
--- what is found of a list that is made from another
-pub get_mapped : {X Y : Type 0} (f : X → Y) (xs : List X) (n : ℕ) (x : X) → slice_get xs n ≡ Some x → slice_get (map f xs) n ≡ Some (f x)
-get_mapped f [] n x e = cc
-get_mapped f (y ∷ xs) zero x e = (let s : y ≡ x = cc in ap (λ z. Some (f z)) s)
-get_mapped f (y ∷ xs) (suc n) x e = get_mapped f xs n x e
+use Rattle.std.proofs.Common.{◌≡◌, ℕ, zero, suc, ◌-◌, ◌<◌, ◌≤◌, List, [], ◌∷◌, length, map, get_or, slice_get, Option, Some, None, Vec, Global, All, refl, sym, ap, ◌∙◌, subst, inl, inr, arith}
+use Rattle.intake.proofs.Common.{get_or_from_slice_get, slice_get_at, slice_get_read, slice_get_within, cases_order, RANKS, IsPlaceOf, Code, Finds, Student, students_of, student_codes, Parts, Rise, choice_code, NextPair}
+use Rattle.intake.proofs.Order.{cmp_apart, get_mapped}
 
 -- what is found satisfies what all do
 pub all_found : {X : Type 0} (P : X → Type 0) (xs : List X) (n : ℕ) (x : X) → All P xs → slice_get xs n ≡ Some x → P x
@@ -20,9 +12,9 @@ all_found P (y ∷ xs) (suc n) x h e = all_found P xs n x (λ k d l. h (suc k) d
 -- a student of a draft, by codes
 pub student_at : (es : List (List ℕ × Vec Code Global)) (n : ℕ) (e : List ℕ × Vec Code Global) → n < length es → e ≡ get_or es n e
     → slice_get (students_of (map (λ e. (e.0, e.1.items)) es)) n ≡ Some (record { code = e.0; list = e.1.items })
-student_at [] n e h r = absurd (omega arith)
-student_at (x ∷ es) zero e h r = ap (λ (y : List ℕ × Vec Code Global). Some (let s : Student = record { code = y.0; list = y.1.items } in s)) (sym r)
-student_at (x ∷ es) (suc n) e h r = student_at es n e (omega arith) r
+student_at es n e h r =
+    let student : List ℕ × List (List ℕ) → Student = λ e. record { code = e.0; list = e.1 } in
+    get_mapped student (map (λ e. (e.0, e.1.items)) es) n (e.0, e.1.items) (get_mapped (λ e. (e.0, e.1.items)) es n e (slice_get_read es (length es) n e refl h r))
 
 -- in codes that rise each stands once
 pub one_place : (codes : List (List ℕ)) (m n : ℕ) (code : List ℕ) → Rise codes → slice_get codes m ≡ Some code → slice_get codes n ≡ Some code → m ≡ n
@@ -30,8 +22,8 @@ one_place codes m n code rise e f =
     elim (cases_order m n) [
       | inl same ↦ same
       | inr o ↦ elim o [
-        | inl h ↦ absurd (cmp_apart (get_or codes m []) (get_or codes n []) (rise m n [] h (within_get codes n code f)) (get_found codes m code [] e ∙ sym (get_found codes n code [] f)))
-        | inr h ↦ absurd (cmp_apart (get_or codes n []) (get_or codes m []) (rise n m [] h (within_get codes m code e)) (get_found codes n code [] f ∙ sym (get_found codes m code [] e)))
+        | inl h ↦ absurd (cmp_apart (get_or codes m []) (get_or codes n []) (rise m n [] h (slice_get_within codes n code f)) (get_or_from_slice_get codes m code [] e ∙ sym (get_or_from_slice_get codes n code [] f)))
+        | inr h ↦ absurd (cmp_apart (get_or codes n []) (get_or codes m []) (rise n m [] h (slice_get_within codes m code e)) (get_or_from_slice_get codes n code [] f ∙ sym (get_or_from_slice_get codes m code [] e)))
       ]
     ]
 
@@ -53,7 +45,7 @@ refers p row s (Some k) a b t e =
 
 -- a code that was found nowhere
 pub nowhere : (codes : List (List ℕ)) (n m : ℕ) (code other : List ℕ) → n ≡ length codes → code ≡ other → Finds codes n code None → slice_get codes m ≡ Some other → ⊥
-nowhere codes n m code other e same none found = none m (omega (arith, within_get codes m other found)) (found ∙ ap Some (sym same))
+nowhere codes n m code other e same none found = none m (omega (arith, slice_get_within codes m other found)) (found ∙ ap Some (sym same))
 
 -- the list of the student that was looked up
 pub listed_at : (es : List (List ℕ × Vec Code Global)) (n m : ℕ) (e : List ℕ × Vec Code Global) (st : Student) → n < length es → e ≡ get_or es n e → n ≡ m → slice_get (students_of (map (λ e. (e.0, e.1.items)) es)) m ≡ Some st → st.list ≡ e.1.items

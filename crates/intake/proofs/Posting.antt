@@ -1,11 +1,10 @@
 -- Rolls as they were read, posted entry by entry.
 use Rattle.std.proofs.Common.{◌≡◌, ℕ, ◌+◌, ◌-◌, ◌<◌, ◌≤◌, ℤ, Vec, Global, List, [], ◌∷◌, ◌++◌, length, map, get_or, take, replicate, slice_get, Option, Some, None, IfSome, All, Contains, refl, sym, ap, ◌∙◌, subst, arith}
-use Rattle.intake.proofs.Common.{Code, get_or-map, All-append, All-replicate, AllInRange, get_or_default, length-append, length-map, length-replicate, map_push, take_more, Finds, IsPrice, ArePricesUpTo, Instance, Supervisor, Project, Student, supervisors_of, projects_of, students_of, supervisors_named, projects_named, students_named, supervisor_codes, project_codes, code_at, Public, IsInstance, IsListOf, lines_of, IsDraft, IsPublicParts, draft_of, public_read, assigned_list, zeros}
+use Rattle.intake.proofs.Common.{get_or_from_slice_get, Code, get_or-map, All-append, All-replicate, AllInRange, get_or_default, length-append, length-map, length-replicate, map_push, take_more, Finds, IsPrice, ArePricesUpTo, Instance, Supervisor, Project, Student, supervisors_of, projects_of, students_of, supervisors_named, projects_named, students_named, supervisor_codes, project_codes, code_at, Public, IsInstance, IsListOf, lines_of, IsDraft, IsPublicParts, draft_of, public_read, assigned_list, zeros}
 use Rattle.intake.specs.declared.draft.PartialRound.{PartialRound}
 use Rattle.intake.specs.declared.public_parts.PublicParts.{PublicParts}
 use Rattle.intake.specs.Inside.Posting.{ArePostedProjects, ArePostedStudents, ArePostedSupervisors}
 use Rattle.intake.proofs.Ends.{same_parts}
-use Rattle.intake.proofs.Order.{get_found}
 use Rattle.intake.proofs.Prices.{filled_lines, first_prices, zeros_price}
 use Rattle.intake.proofs.Rolls.{project_keys, supervisor_keys, standing}
 use Rattle.intake.proofs.Where.{first_few}
@@ -52,7 +51,7 @@ assigned_found known (x ∷ []) n c None l many here found =
     absurd (found at.0 (omega (arith, at.1)) (at.2 ∙ ap Some same))
 assigned_found known (x ∷ []) n c (Some p) l many here found =
     let same : x ≡ c = cc in
-    (ap (λ (y : List ℕ). y ∷ []) (get_found known p c [] found.1 ∙ sym same), found.0)
+    (ap (λ (y : List ℕ). y ∷ []) (get_or_from_slice_get known p c [] found.1 ∙ sym same), found.0)
 
 -- what all students are assigned is known, as it is read
 pub known_all : (ts us : List (Option ℕ)) (m n : ℕ) → us ≡ ts → m ≤ n → ((s p : ℕ) → s < length ts → get_or ts s None ≡ Some p → p < m) → All (λ t. IfSome t (λ p. p < n)) us

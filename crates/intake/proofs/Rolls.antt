@@ -1,23 +1,18 @@
 -- Rolls of entries with codes, as the code keeps them and by codes.
-use Rattle.std.proofs.Common.{◌≡◌, ℕ, zero, suc, ◌+◌, ◌<◌, List, [], ◌∷◌, length, map, slice_get, Some, None, Vec, Global, Contains, refl, sym, ap, ◌∙◌, subst, inl, inr, arith, below_more}
-use Rattle.intake.proofs.Common.{cases_lt, Code, supervisors_of, projects_of, students_of, AreApart, Finds, AreKnown, IsListOf, Kind, ComesNext}
-use Rattle.intake.proofs.Found.{slice_get_at}
-use Rattle.intake.proofs.Order.{get_found}
+use Rattle.std.proofs.Common.{◌≡◌, ℕ, ◌+◌, ◌<◌, List, length, map, slice_get, Some, None, Vec, Global, Contains, sym, ap, ◌∙◌, subst, inl, inr, arith, below_more}
+use Rattle.intake.proofs.Common.{get_or_from_slice_get, slice_get_at, slice_get_within, cases_lt, length-map, map-map, Code, supervisors_of, projects_of, students_of, AreApart, Finds, AreKnown, IsListOf, Kind, ComesNext}
 
 -- the codes of supervisors
 pub supervisor_keys : (es : List (List ℕ × ℕ)) → map (λ e. e.code) (supervisors_of es) ≡ map (λ e. e.0) es
-supervisor_keys [] = refl
-supervisor_keys (e ∷ es) = ap (λ (rest : List (List ℕ)). e.0 ∷ rest) (supervisor_keys es)
+supervisor_keys es = map-map _ _ es
 
 -- the codes of projects
 pub project_keys : (es : List (List ℕ × List ℕ × ℕ)) → map (λ e. e.code) (projects_of es) ≡ map (λ e. e.0) es
-project_keys [] = refl
-project_keys (e ∷ es) = ap (λ (rest : List (List ℕ)). e.0 ∷ rest) (project_keys es)
+project_keys es = map-map _ _ es
 
 -- the codes of students
 pub student_keys : (es : List (List ℕ × Vec Code Global)) → map (λ e. e.code) (students_of (map (λ e. (e.0, e.1.items)) es)) ≡ map (λ e. e.0) es
-student_keys [] = refl
-student_keys (e ∷ es) = ap (λ (rest : List (List ℕ)). e.0 ∷ rest) (student_keys es)
+student_keys es = map-map _ _ (map (λ e. (e.0, e.1.items)) es) ∙ map-map _ _ es
 
 -- one code more that is known
 pub known_more : (known codes : List (List ℕ)) (n : ℕ) (code : List ℕ) → AreKnown known codes n → slice_get codes n ≡ Some code → Contains known code → AreKnown known codes (n + 1)
@@ -33,15 +28,9 @@ apart_more codes n code here apart new p q h l =
       | inr k ↦ λ e. new p (omega arith) (e ∙ ap (slice_get codes) (omega arith) ∙ here)
     ]
 
--- what a look-up finds is within the list
-pub within_get : {X : Type 0} (xs : List X) (i : ℕ) (x : X) → slice_get xs i ≡ Some x → i < length xs
-within_get [] i x e = cc
-within_get (y ∷ xs) zero x e = omega arith
-within_get (y ∷ xs) (suc i) x e = let r = within_get xs i x e in omega (arith, r)
-
 -- a code that stands somewhere is contained
 pub contained : (codes : List (List ℕ)) (p : ℕ) (code : List ℕ) → slice_get codes p ≡ Some code → Contains codes code
-contained codes p code e = (p, within_get codes p code e, get_found codes p code code e)
+contained codes p code e = (p, slice_get_within codes p code e, get_or_from_slice_get codes p code code e)
 
 -- a code that is contained stands somewhere
 pub standing : (codes : List (List ℕ)) (code : List ℕ) → Contains codes code → (p : ℕ) × (p < length codes) × (slice_get codes p ≡ Some code)
@@ -53,8 +42,7 @@ comes_moved most a b x y e f next = subst (λ (l : List (List ℕ)). ComesNext m
 
 -- students by codes are as many
 pub student_count : (es : List (List ℕ × Vec Code Global)) → length (students_of (map (λ e. (e.0, e.1.items)) es)) ≡ length es
-student_count [] = refl
-student_count (e ∷ es) = ap suc (student_count es)
+student_count es = length-map (map (λ e. (e.0, e.1.items)) es) _ ∙ length-map es _
 
 -- a sound list, said of the same codes
 pub sound_moved : (k : Kind) (a b x y : List (List ℕ)) → a ≡ b → x ≡ y → IsListOf k a x → IsListOf k b y

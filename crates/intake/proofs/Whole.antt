@@ -1,8 +1,7 @@
 -- What is written is the parts of a round.
 use Rattle.std.proofs.Common.{◌≡◌, ◌≢◌, ℕ, suc, ◌<◌, ◌≤◌, inl, inr, ℤ, List, [], ◌∷◌, length, map, get_or, slice_get, Option, Some, None, All, Contains, refl, sym, ap, ◌∙◌, subst, arith}
-use Rattle.intake.proofs.Common.{IsTrue, AllPairs, AllZip, length-map, get_or_default, All-nil, All-cons, All-head, All-tail, Aim, IsPlaceOf, COMPONENTS, RANKS, MAX_QUOTA, is_code, code_at, AreApart, Supervisor, Project, Student, supervisor_codes, project_codes, student_codes, Named, IsFit, instance_of, supervisors_named, projects_named, students_named, IsWithin, IsListOf, HasPlaces, EachInRange, AllInRange, HasShape, Prices, Rise, IsRoll, IsPlace, ArePricesOrNone, IsInstance, Round, IsRoundParts, alone, proved}
-use Rattle.intake.proofs.Found.{slice_get_at}
-use Rattle.intake.proofs.PairLine.{get_mapped}
+use Rattle.intake.proofs.Common.{slice_get_at, IsTrue, AllPairs, AllZip, length-map, get_or_default, All-nil, All-cons, All-head, All-tail, Aim, IsPlaceOf, COMPONENTS, RANKS, MAX_QUOTA, is_code, code_at, AreApart, Supervisor, Project, Student, supervisor_codes, project_codes, student_codes, Named, IsFit, instance_of, supervisors_named, projects_named, students_named, IsWithin, IsListOf, HasPlaces, EachInRange, AllInRange, HasShape, Prices, Rise, IsRoll, IsPlace, ArePricesOrNone, IsInstance, Round, IsRoundParts, alone, proved}
+use Rattle.intake.proofs.Order.{get_mapped}
 use Rattle.intake.proofs.Rolls.{contained}
 use Rattle.intake.proofs.One.{one_listed}
 use Rattle.intake.proofs.RestOfText.{named_supervisors, named_projects, named_students}

@@ -1,8 +1,8 @@
 -- What is said of each field and row, said of each row that is next.
 use Rattle.std.proofs.Common.{◌≡◌, ℕ, suc, ◌+◌, ◌-◌, ◌*◌, ◌<◌, ◌≤◌, ℤ, pos, true, List, [], ◌∷◌, ◌++◌, length, map, get_or, codes, decimal, Option, Some, None, All, refl, sym, subst, arith}
-use Rattle.intake.proofs.Common.{signed_decimal, IsTrue, All-head, All-tail, All-contains, Aim, Greedy, Generous, MAX_QUOTA, RANKS, COMPONENTS, IsPlaceOf, is_code, Kind, Round, Public, Student, supervisor_codes, project_codes, student_codes, IsListOf, most_listed, InRange, Parts, IsPlace, IsRoll, IsPrice, Row, choice_code, aim_rows, pair_row, SectionName, Aims, Supervisors, Projects, Students, Pairs, StudentPrices, ProjectPrices, SupervisorPrices, IsDraft, Entry, IsNext, NextPrice}
-use Rattle.intake.proofs.Found.{slice_get_at}
-use Rattle.intake.proofs.PairLine.{all_found, get_mapped}
+use Rattle.intake.proofs.Common.{slice_get_at, signed_decimal, IsTrue, All-head, All-tail, All-contains, Aim, Greedy, Generous, MAX_QUOTA, RANKS, COMPONENTS, IsPlaceOf, is_code, Kind, Round, Public, Student, supervisor_codes, project_codes, student_codes, IsListOf, most_listed, InRange, Parts, IsPlace, IsRoll, IsPrice, Row, choice_code, aim_rows, pair_row, SectionName, Aims, Supervisors, Projects, Students, Pairs, StudentPrices, ProjectPrices, SupervisorPrices, IsDraft, Entry, IsNext, NextPrice}
+use Rattle.intake.proofs.Order.{get_mapped}
+use Rattle.intake.proofs.PairLine.{all_found}
 use Rattle.intake.proofs.Prices.{price_is}
 
 -- a list has no more projects than there are ranks

@@ -1,8 +1,7 @@
 use Rattle.std.proofs.Common.{◌≡◌, ◌≢◌, ◌<◌, ℕ, List, [], ◌∷◌, ◌++◌, length, map, get_or, slice_get, Some, sym, ap, ◌∙◌, arith}
-use Rattle.intake.proofs.Common.{eqb-false, eqb-true, length-map}
+use Rattle.intake.proofs.Common.{get_or_from_slice_get, slice_get_within, eqb-false, eqb-true, length-map}
 use Rattle.intake.proofs.Lists.{blank, field_at, unknown_code, repeated_code, sound_more, read_more, at_position, stand_more, fresh_code}
-use Rattle.intake.proofs.Order.{get_found, key_at}
-use Rattle.intake.proofs.Rolls.{within_get}
+use Rattle.intake.proofs.Order.{key_at}
 use Rattle.intake.proofs.draft.read_list.Goals as goal
 
 pub returns-in_default : goal.returns-in_default
@@ -25,7 +24,7 @@ returns-then-contains c = λ sound.
     let same = eqb-true _ _ (tests.cases.2 0) in
     let here : slice_get seen tests.cases.0 ≡ Some code =
     at_position codes c.loop-field.positions.items seen tests.cases.0 inv.placed tests.cases.1 ∙ ap (slice_get codes) same ∙ c.in-Some.ensures.1 in
-    repeated_code c.args.kind codes fs seen k tests.cases.0 code sound at.0 at.1 inv.read (within_get seen tests.cases.0 code here, here)
+    repeated_code c.args.kind codes fs seen k tests.cases.0 code sound at.0 at.1 inv.read (slice_get_within seen tests.cases.0 code here, here)
 
 pub loop-field-preserved : goal.loop-field-preserved
 loop-field-preserved c =
@@ -43,7 +42,7 @@ loop-field-preserved c =
     let fresh = fresh_code codes ps seen p code c.requires.rise inv.placed c.in-Some.ensures.1 other in
     let copied : c.copy.result ≡ code = c.copy.ensures ∙ ap (λ (e : List ℕ × List ℕ × ℕ). e.0) (sym c.index-projects-position.is)
     ∙ sym (key_at (λ e. e.0) c.args.projects.now p c.index-projects-position.result c.in-Some.ensures.0 c.index-projects-position.is)
-    ∙ get_found codes p code [] c.in-Some.ensures.1 in
+    ∙ get_or_from_slice_get codes p code [] c.in-Some.ensures.1 in
     let read = c.in_ok-push.ensures.items ∙ ap (λ (x : List ℕ). seen ++ x ∷ []) copied in
     let placed = c.push-in-loop-field.ensures.items in
     record {

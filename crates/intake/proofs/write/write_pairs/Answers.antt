@@ -1,6 +1,5 @@
 use Rattle.std.proofs.Common.{◌≡◌, ℕ, ◌+◌, ◌-◌, ◌<◌, List, [], ◌∷◌, ◌++◌, length, get_or, Some, None, codes, drop, string_bytes, refl, sym, ap, ◌∙◌, arith}
-use Rattle.intake.proofs.Common.{get_or_read, IsPlaceOf, list_of, line}
-use Rattle.intake.proofs.Found.{slice_get_at}
+use Rattle.intake.proofs.Common.{slice_get_at, get_or_read, IsPlaceOf, list_of, line}
 use Rattle.intake.proofs.RestOfText.{is_none, pairs_none, pairs_some, pair_text, next}
 use Rattle.intake.proofs.write.write_pairs.Goals as goal
 use Rattle.intake.proofs.write.write_pairs.Goals.{in-Some+in_ok-push_pair, in_default}

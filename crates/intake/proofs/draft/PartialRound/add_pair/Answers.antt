@@ -1,10 +1,10 @@
 use Rattle.std.proofs.Common.{◌≡◌, ℕ, ◌+◌, ◌<◌, List, [], ◌∷◌, ◌++◌, length, map, get_or, slice_get, Option, Some, refl, sym, ap, subst, ◌∙◌, arith, rules}
-use Rattle.intake.proofs.Common.{length-map, code_at, Student, IsRoll, choice_code, draft_of}
-use Rattle.intake.proofs.Order.{get_found}
+use Rattle.intake.proofs.Common.{get_or_from_slice_get, length-map, code_at, Student, IsRoll, choice_code, draft_of}
 use Rattle.intake.proofs.RowInDraft.{two_fields, parts}
 use Rattle.intake.proofs.Lists.{blank}
 use Rattle.intake.proofs.Rolls.{student_keys}
-use Rattle.intake.proofs.PairLine.{refers, nowhere, one_place, student_at, listed_at, small_place, get_mapped, same_found}
+use Rattle.intake.proofs.Order.{get_mapped}
+use Rattle.intake.proofs.PairLine.{refers, nowhere, one_place, student_at, listed_at, small_place, same_found}
 use Rattle.intake.proofs.draft.PartialRound.add_pair.Goals as goal
 
 pub position_at-requires : goal.position_at-requires
@@ -54,7 +54,7 @@ returns c =
     let many : c.len.result ≡ length c.args.self.now.places.items = search (rules) in
     let first : c.index.result.now.0 ≡ (get_or c.args.fields.now 0 blank).now = same_found _ s _ _ (get_mapped (λ (x : Student). x.code) _ s _ here)
     (ap (λ (l : List (List ℕ)). slice_get l s) keys ∙ c.in-Some.ensures.1) in
-    let second : (get_or c.args.fields.now 1 blank).now ≡ choice_code c.index.result.now.1.items k = sym (get_found c.deref-2.result.now before (get_or c.args.fields.now 1 blank).now [] c.in-Some-position_in.ensures.1) ∙ ap (λ (l : List (List ℕ)). code_at l before) c.deref-2.ensures.value ∙ ap (code_at c.index.result.now.1.items) (omega arith) in (
+    let second : (get_or c.args.fields.now 1 blank).now ≡ choice_code c.index.result.now.1.items k = sym (get_or_from_slice_get c.deref-2.result.now before (get_or c.args.fields.now 1 blank).now [] c.in-Some-position_in.ensures.1) ∙ ap (λ (l : List (List ℕ)). code_at l before) c.deref-2.ensures.value ∙ ap (code_at c.index.result.now.1.items) (omega arith) in (
       (s, Some k),
       record {
         entry = record { code = c.index.result.now.0; list = c.index.result.now.1.items };

@@ -1,8 +1,8 @@
 use Rattle.std.proofs.Common.{◌≡◌, ℕ, List, [], ◌∷◌, length, map, get_or, slice_get, Some, decimal, sym, ap, subst, ◌∙◌, arith}
-use Rattle.intake.proofs.Common.{length-map, supervisors_of, Rise, IsRoll}
+use Rattle.intake.proofs.Common.{get_or_from_slice_get, length-map, supervisors_of, Rise, IsRoll}
 use Rattle.intake.proofs.RowInDraft.{three_fields, project_added}
 use Rattle.intake.proofs.Lists.{blank, first_field}
-use Rattle.intake.proofs.Order.{get_found, key_at}
+use Rattle.intake.proofs.Order.{key_at}
 use Rattle.intake.proofs.PairLine.{nowhere}
 use Rattle.intake.proofs.Rolls.{project_keys, supervisor_keys, comes_moved, contained, standing}
 use Rattle.intake.proofs.draft.PartialRound.add_project.Goals as goal
@@ -34,7 +34,7 @@ returns c =
     let at : slice_get (map (λ e. e.code) (supervisors_of c.args.self.now.supervisors.items)) owner ≡ Some (get_or c.args.fields.now 1 blank).now = ap (λ (l : List (List ℕ)). slice_get l owner) (sym owners) ∙ c.in-Some-position_at.ensures.1 in
     let supervisor : c.copy-supervisor.result ≡ (get_or c.args.fields.now 1 blank).now =
     c.copy-supervisor.ensures ∙ sym (key_at (λ e. e.0) c.args.self.now.supervisors.items owner c.index.result.now (omega (arith, c.in-Some-position_at.ensures.0, ap length c.deref-2.ensures.value)) c.index.ensures)
-    ∙ get_found (map (λ e. e.0) c.args.self.now.supervisors.items) owner (get_or c.args.fields.now 1 blank).now [] (ap (λ (l : List (List ℕ)). slice_get l owner) (sym (supervisor_keys c.args.self.now.supervisors.items)) ∙ at) in
+    ∙ get_or_from_slice_get (map (λ e. e.0) c.args.self.now.supervisors.items) owner (get_or c.args.fields.now 1 blank).now [] (ap (λ (l : List (List ℕ)). slice_get l owner) (sym (supervisor_keys c.args.self.now.supervisors.items)) ∙ at) in
     let keys = ap (map (λ e. e.0)) c.deref.ensures.value ∙ sym (project_keys c.args.self.now.projects.items) in (
       record { code = c.in-Some.code; supervisor = c.copy-supervisor.result; quota = c.in-Some-read_quota.quota },
       record {
