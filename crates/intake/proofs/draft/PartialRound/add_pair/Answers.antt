@@ -1,6 +1,6 @@
 use Rattle.std.proofs.Common.{◌≡◌, ℕ, ◌+◌, ◌<◌, List, [], ◌∷◌, ◌++◌, length, map, get_or, slice_get, Option, Some, refl, sym, ap, subst, ◌∙◌, arith, rules}
 use Rattle.intake.proofs.Common.{get_or_from_slice_get, length-map, code_at, Student, IsRoll, choice_code, draft_of}
-use Rattle.intake.proofs.RowInDraft.{two_fields, parts}
+use Rattle.intake.proofs.RowInDraft.{two_fields}
 use Rattle.intake.proofs.Lists.{blank}
 use Rattle.intake.proofs.Rolls.{student_keys}
 use Rattle.intake.proofs.Order.{get_mapped}
@@ -63,6 +63,5 @@ returns c =
         fits = record { first = omega arith; last = omega (arith, c.in-Some-position_in.ensures.0, ap length c.deref-2.ensures.value) };
         is = ap Some (sym (two_fields c.args.fields.now c.in-len2.len_at_least c.in-len2.len_below ∙ ap (λ (x : List ℕ). x ∷ (get_or c.args.fields.now 1 blank).now ∷ []) (sym first) ∙ ap (λ (x : List ℕ). c.index.result.now.0 ∷ x ∷ []) second));
       },
-      ap (λ (l : List (Option ℕ)). parts c.args.self.now.aim c.args.self.now.supervisors.items c.args.self.now.projects.items (map (λ e. (e.0, e.1.items)) c.args.self.now.students.items) l c.args.self.now.prices.students.items c.args.self.now.prices.projects.items c.args.self.now.prices.supervisors.items)
-          (c.in_ok-push.ensures.items ∙ ap (λ (l : List (Option ℕ)). l ++ Some k ∷ []) c.in_ok-fill.ensures),
+      ap (λ (l : List (Option ℕ)). record (draft_of c.args.self.now) { places = l }) (c.in_ok-push.ensures.items ∙ ap (λ (l : List (Option ℕ)). l ++ Some k ∷ []) c.in_ok-fill.ensures),
     )

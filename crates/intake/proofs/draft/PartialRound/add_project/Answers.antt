@@ -1,6 +1,6 @@
 use Rattle.std.proofs.Common.{◌≡◌, ℕ, List, [], ◌∷◌, length, map, get_or, slice_get, Some, decimal, sym, ap, subst, ◌∙◌, arith}
-use Rattle.intake.proofs.Common.{get_or_from_slice_get, length-map, supervisors_of, Rise, IsRoll}
-use Rattle.intake.proofs.RowInDraft.{three_fields, project_added}
+use Rattle.intake.proofs.Common.{get_or_from_slice_get, length-map, supervisors_of, Rise, IsRoll, Project, projects_of, draft_of, map_push}
+use Rattle.intake.proofs.RowInDraft.{three_fields}
 use Rattle.intake.proofs.Lists.{blank, first_field}
 use Rattle.intake.proofs.Order.{key_at}
 use Rattle.intake.proofs.PairLine.{nowhere}
@@ -45,5 +45,6 @@ returns c =
         code = comes_moved _ _ _ _ _ keys (sym read.0) read.1;
         fits = (contained _ owner c.copy-supervisor.result (at ∙ ap Some (sym supervisor)), c.in-Some-read_quota.ensures.0);
       },
-      project_added _ c.args.self.now.supervisors.items c.args.self.now.projects.items c.push.new.self.items (map (λ e. (e.0, e.1.items)) c.args.self.now.students.items) c.args.self.now.places.items _ _ _ c.in-Some.code c.copy-supervisor.result c.in-Some-read_quota.quota c.in_ok-push.ensures.items,
+      ap (λ (l : List Project). let p = draft_of c.args.self.now in record p { instance = record p.instance { projects = l } })
+          (ap projects_of c.in_ok-push.ensures.items ∙ map_push (λ e. record { code = e.0; supervisor = e.1; quota = e.2 }) c.args.self.now.projects.items (c.in-Some.code, c.copy-supervisor.result, c.in-Some-read_quota.quota)),
     )

@@ -1,6 +1,5 @@
 use Rattle.std.proofs.Common.{◌≡◌, ℕ, List, ◌∷◌, map, sym, ap, subst, ◌∙◌}
-use Rattle.intake.proofs.Common.{Bor, map_push, Rise, IsRoll}
-use Rattle.intake.proofs.RowInDraft.{student_added}
+use Rattle.intake.proofs.Common.{Bor, map_push, Rise, IsRoll, Student, students_of, draft_of}
 use Rattle.intake.proofs.Lists.{first_field, other_fields}
 use Rattle.intake.proofs.Rolls.{student_keys, project_keys, comes_moved, sound_moved}
 use Rattle.intake.proofs.draft.PartialRound.add_student.Goals as goal
@@ -38,6 +37,7 @@ returns c =
         code = comes_moved _ _ _ _ _ keys (sym next.0) next.1;
         fits = sound_moved _ _ _ _ _ owners (sym read.0) read.1;
       },
-      student_added _ c.args.self.now.supervisors.items c.args.self.now.projects.items (map (λ e. (e.0, e.1.items)) c.args.self.now.students.items) (map (λ e. (e.0, e.1.items)) c.push.new.self.items) c.args.self.now.places.items _ _ _ c.in-Some-next_code.code c.in-Some-2.list.items
-          (ap (map (λ e. (e.0, e.1.items))) c.in_ok-push.ensures.items ∙ map_push (λ e. (e.0, e.1.items)) c.args.self.now.students.items (c.in-Some-next_code.code, c.in-Some-2.list)),
+      ap (λ (l : List Student). let p = draft_of c.args.self.now in record p { instance = record p.instance { students = l } })
+          (ap (λ l. students_of (map (λ e. (e.0, e.1.items)) l)) c.in_ok-push.ensures.items ∙ ap students_of (map_push (λ e. (e.0, e.1.items)) c.args.self.now.students.items (c.in-Some-next_code.code, c.in-Some-2.list))
+          ∙ map_push (λ e. record { code = e.0; list = e.1 }) (map (λ e. (e.0, e.1.items)) c.args.self.now.students.items) (c.in-Some-next_code.code, c.in-Some-2.list.items)),
     )

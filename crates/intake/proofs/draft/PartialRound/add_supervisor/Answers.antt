@@ -1,6 +1,6 @@
 use Rattle.std.proofs.Common.{ℕ, List, [], ◌∷◌, map, get_or, sym, ap, subst, ◌∙◌}
-use Rattle.intake.proofs.Common.{Rise}
-use Rattle.intake.proofs.RowInDraft.{two_fields, supervisor_added}
+use Rattle.intake.proofs.Common.{Rise, Supervisor, supervisors_of, draft_of, map_push}
+use Rattle.intake.proofs.RowInDraft.{two_fields}
 use Rattle.intake.proofs.Lists.{blank, first_field}
 use Rattle.intake.proofs.Rolls.{supervisor_keys, comes_moved}
 use Rattle.intake.proofs.draft.PartialRound.add_supervisor.Goals as goal
@@ -22,5 +22,6 @@ returns c =
         code = comes_moved _ _ _ _ _ keys (sym read.0) read.1;
         fits = c.in-Some-read_quota.ensures.0;
       },
-      supervisor_added _ c.args.self.now.supervisors.items c.push.new.self.items c.args.self.now.projects.items (map (λ e. (e.0, e.1.items)) c.args.self.now.students.items) c.args.self.now.places.items _ _ _ c.in-Some.code c.in-Some-read_quota.quota c.in_ok-push.ensures.items,
+      ap (λ (l : List Supervisor). let p = draft_of c.args.self.now in record p { instance = record p.instance { supervisors = l } })
+          (ap supervisors_of c.in_ok-push.ensures.items ∙ map_push (λ e. record { code = e.0; quota = e.1 }) c.args.self.now.supervisors.items (c.in-Some.code, c.in-Some-read_quota.quota)),
     )
