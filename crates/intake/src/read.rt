@@ -77,12 +77,7 @@ pub fn is_public(alloc: Global, text: &[u8]) -> Result<bool, AllocError>
     ensures { IfOk result (λ b. IsTrue b ↔ TellsStudents text.now) }
 {
     let lines = pieces(alloc, text, b'\n', 64)?;
-    for n in 0..lines.len() {
-        if tells_student(lines[n]) {
-            return Ok(true);
-        }
-    }
-    Ok(false)
+    Ok(lines.iter().any(|line| tells_student(line)))
 }
 
 /// Returns the fields of a line: what stands between its commas. An `Err` is out of memory.

@@ -1,39 +1,25 @@
-use Rattle.std.proofs.Common.{◌≡◌, ℕ, ◌<◌, List, [], length, get_or, refl, sym, ap, subst, ◌∙◌, arith, inl, inr}
-use Rattle.intake.proofs.Common.{Bor, cases_lt, get_or_default, length-map, pieces}
+use Rattle.std.proofs.Common.{◌≡◌, ℕ, ◌<◌, Bool, List, length, map, get_or, Contains, rules, sym, ap, subst, ◌∙◌, arith}
+use Rattle.std.specs.List.{Any}
+use Rattle.intake.proofs.Common.{Bor, IsTrue, get_or-map, get_or_default, length-map}
 use Rattle.intake.specs.Public.{TellsStudent}
-use Rattle.intake.proofs.Bad.{piece_at}
+use Rattle.intake.proofs.Lists.{blank}
 use Rattle.intake.proofs.read.is_public.Goals as goal
 
-pub returns-then-tells_student : goal.returns-then-tells_student
-returns-then-tells_student c =
-    let n : ℕ = c.loop-n.n in
-    let len : c.len-n-end.result ≡ length c.in_ok-lines.lines.items = omega (arith, c.len-n-end.ensures, c.in_ok-lines.lines.ok.0) in
-    let h : n < length c.in_ok-lines.lines.items = omega (arith, len, c.loop-n-test.true) in
-    let many : length c.in_ok-lines.lines.items ≡ length (pieces c.args.text.now) = sym (length-map c.in_ok-lines.lines.items (λ (f : Bor (List ℕ)). f.now)) ∙ ap length c.in_ok-lines.ensures in
-    let at = piece_at c.args.text.now c.in_ok-lines.lines.items n c.index.result.now c.in_ok-lines.ensures h c.index.ensures in
-    (λ t. (c.index.result.now.now, (n, omega (arith, many, h), get_or_default (pieces c.args.text.now) n c.index.result.now.now [] (omega (arith, many, h)) ∙ at), c.tells_student.ensures.0 c.if-tells_student.true), λ t. refl)
-
-pub loop-n-preserved : goal.loop-n-preserved
-loop-n-preserved c =
-    let n : ℕ = c.loop-n.n in
-    let len : c.len-n-end.result ≡ length c.in_ok-lines.lines.items = omega (arith, c.len-n-end.ensures, c.in_ok-lines.lines.ok.0) in
-    let h : n < length c.in_ok-lines.lines.items = omega (arith, len, c.loop-n-test.true) in
-    let at = piece_at c.args.text.now c.in_ok-lines.lines.items n c.index.result.now c.in_ok-lines.ensures h c.index.ensures in
-    λ k l t. elim (cases_lt k n) [
-      | inl less ↦ c.loop-n.invariant k less t
-      | inr past ↦
-          let same : k ≡ n = omega arith in
-          let yes = c.tells_student.ensures.1 (subst TellsStudent (ap (λ (m : ℕ). get_or (pieces c.args.text.now) m []) same ∙ at) t) in
-          let no = c.if-tells_student.false in
-          cc
-    ]
+-- some line assigns something to a student, said of the lines as texts
+told : (lines : List (Bor (List ℕ))) (r : Bool) → (IsTrue r → Any (λ l. TellsStudent l.now) lines) × (Any (λ l. TellsStudent l.now) lines → IsTrue r)
+    → (IsTrue r → (l : List ℕ) × Contains (map (λ l. l.now) lines) l × TellsStudent l) × ((l : List ℕ) × Contains (map (λ l. l.now) lines) l × TellsStudent l → IsTrue r)
+told lines r any =
+    let many = length-map lines (λ (l : Bor (List ℕ)). l.now) in (
+      λ t. (let a = any.0 t in (a.1.now, (a.0, omega (arith, many, a.2), get_or-map (λ (l : Bor (List ℕ)). l.now) lines a.0 a.1 a.1.now a.2 ∙ ap (λ (l : Bor (List ℕ)). l.now) a.3), a.4)),
+      λ t.
+          let h : t.1.0 < length lines = omega (arith, many, t.1.1) in
+          let line : Bor (List ℕ) = get_or lines t.1.0 blank in
+          let is : t.0 ≡ line.now = sym t.1.2 ∙ get_or-map (λ (l : Bor (List ℕ)). l.now) lines t.1.0 blank t.0 h in
+          any.1 (t.1.0, line, h, get_or_default lines t.1.0 line blank h, subst TellsStudent is t.2),
+    )
 
 pub returns : goal.returns
 returns c =
-    let len : c.len-n-end.result ≡ length c.in_ok-lines.lines.items = omega (arith, c.len-n-end.ensures, c.in_ok-lines.lines.ok.0) in
-    let many : length c.in_ok-lines.lines.items ≡ length (pieces c.args.text.now) = sym (length-map c.in_ok-lines.lines.items (λ (f : Bor (List ℕ)). f.now)) ∙ ap length c.in_ok-lines.ensures in (
-      λ t. cc,
-      λ t.
-          let within = t.1.1 in
-          absurd (c.loop-n.invariant t.1.0 (omega (arith, within, many, len, c.loop-n-test.false)) (subst TellsStudent (sym (t.1.2) ∙ get_or_default (pieces c.args.text.now) t.1.0 t.0 [] within) t.2)),
-    )
+    let lines : List (Bor (List ℕ)) = c.in_ok-lines.lines.items in
+    let any : (IsTrue c.any.result → Any (λ (l : Bor (List ℕ)). TellsStudent l.now) lines) × (Any (λ (l : Bor (List ℕ)). TellsStudent l.now) lines → IsTrue c.any.result) = search rules in
+    rw (sym c.in_ok-lines.ensures) (told lines c.any.result any)
