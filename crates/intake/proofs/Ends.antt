@@ -1,10 +1,10 @@
 -- A draft may be completed, and a complete one is the parts of its text.
-use Rattle.std.proofs.Common.{◌≡◌, ℕ, zero, suc, ◌+◌, ◌-◌, ◌<◌, ℤ, List, [], ◌∷◌, ◌++◌, length, map, flat_map, get_or, replicate, codes, Option, Some, None, All, Contains, slice_get, refl, sym, ap, ◌∙◌, subst, arith, append-nil, append_assoc}
-use Rattle.intake.proofs.Common.{slice_get_at, slice_get_within, AllZip, map-append, length-map, All-map, Aim, Instance, Kind, Round, Public, Supervisor, Project, Student, supervisor_codes, project_codes, student_codes, IsFirstRepeated, IsListOf, IsFirstUnknown, IsListFault, IsFirstListFault, IsFirstInstanceFault, Parts, Rise, IsPlace, IsPrice, ArePricesOrNone, ArePricesUpTo, IsPublicText, IsRoundParts, Row, line, lines_of, section_lines, sections, priced, price_section, pair_row, pair_rows, aim_rows, supervisor_row, project_row, student_row, BeginsLines, IsDraft, IsWhole, AreFirst}
+use Rattle.std.proofs.Common.{◌≡◌, ℕ, zero, suc, ◌+◌, ◌-◌, ℤ, List, [], ◌∷◌, ◌++◌, length, map, flat_map, replicate, codes, Option, None, All, Contains, refl, sym, ap, ◌∙◌, subst, arith, append-nil, append_assoc}
+use Rattle.intake.proofs.Common.{slice_get_within, AllZip, map-append, length-map, All-map, Aim, Instance, Kind, Round, Public, Supervisor, Project, Student, supervisor_codes, project_codes, student_codes, IsFirstRepeated, IsListOf, IsFirstUnknown, IsListFault, IsFirstListFault, IsFirstInstanceFault, Parts, Rise, IsPlace, IsPrice, ArePricesOrNone, ArePricesUpTo, IsPublicText, IsRoundParts, Row, line, lines_of, section_lines, sections, priced, price_section, pair_row, pair_rows, aim_rows, supervisor_row, project_row, student_row, BeginsLines, IsDraft, IsWhole, AreFirst}
 use Rattle.spa.specs.declared.fault.Roll.TheVariants.{Supervisors, Projects, Students}
 use Rattle.spa.specs.declared.fault.InstanceFault.{InstanceFault}
 use Rattle.spa.specs.declared.fault.InstanceFault.TheVariants.{Memory, Limit, RepeatedCode, UnknownSupervisor, ListLength, UnknownProject, RepeatedProject}
-use Rattle.intake.proofs.PairLine.{one_place, all_found}
+use Rattle.intake.proofs.PairLine.{rise_apart, all_found}
 use Rattle.intake.proofs.Pieces.{line_of}
 use Rattle.intake.proofs.Prices.{all_filled, filled, filled_prices, filled_same, first_prices}
 use Rattle.intake.proofs.Sections.{full, full_lines}
@@ -67,17 +67,9 @@ public_draft p d = record {
   supervisor_prices = subst (λ (n : ℕ). ArePricesUpTo n p.supervisor_prices) (length-map p.instance.supervisors (λ (e : Supervisor). e.code)) (first_prices (supervisor_codes p.instance) p.supervisor_prices d.prices.2.2.0);
 }
 
--- codes that rise are distinct
-apart : (codes : List (List ℕ)) → Rise codes → (m n : ℕ) → m < n → n < length codes → slice_get codes m ≡ slice_get codes n → ⊥
-apart codes rise m n h l same =
-    let code : List ℕ = get_or codes n [] in
-    let at : slice_get codes n ≡ Some code = slice_get_at codes n [] code l refl in
-    let twice : m ≡ n = one_place codes m n code rise (same ∙ at) at in
-    omega arith
-
 -- no code is the first that stands before it too
 not_repeated : (codes : List (List ℕ)) (n : ℕ) → Rise codes → IsFirstRepeated codes n → ⊥
-not_repeated codes n rise r = apart codes rise r.earlier n r.is_before r.known r.same
+not_repeated codes n rise r = rise_apart codes rise r.earlier n r.is_before r.known r.same
 
 -- of what all have no element is the first without
 not_unknown : (known names : List (List ℕ)) (n : ℕ) → All (λ c. Contains known c) names → IsFirstUnknown known names n → ⊥
