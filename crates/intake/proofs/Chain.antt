@@ -215,41 +215,33 @@ prices_first cs [] h a = tt
 prices_first [] (v ∷ vs) h a = absurd (omega arith)
 prices_first (c ∷ cs) (v ∷ vs) h a = (All-head IsPrice v vs a, prices_first cs vs (omega arith) (All-tail IsPrice v vs a))
 
+-- so it is with those of the parts of a text
+parts_first : (k : Kind) (cs : List (List ℕ)) (vs : List (List ℤ)) → ArePartsPrices k (length cs) vs → AreFirst (λ c. IsPrice) cs vs
+parts_first Round cs vs a = prices_first cs vs (elim a.none_or_all [ inl none ↦ omega arith | inr all ↦ omega arith ]) a.prices
+parts_first Public cs vs a = prices_first cs vs a.few a.prices
+
 -- a price may be the next of all
 stands_next : (k : Kind) (n : ℕ) → StandsAfter k n n
 stands_next Round n = refl
 stands_next Public n = omega arith
 
--- prices that were read, and complete
-pub record PricesRead (k : Kind) (put : List (List ℤ) → Parts) (rows : List Row) (n : ℕ) (us : List (List ℤ)) : Type 0 where
-  pub read : List (List ℤ)
-  pub reads : Reads k (put []) rows (put read)
-  pub complete : IsCompleted k n read
-  pub same : k ≡ Round → us ≡ read
+-- prices that were read are complete, and those of a round are all
+read_all : (k : Kind) (n : ℕ) (us read : List (List ℤ)) (rest : ℕ) → ArePartsPrices k n us → us ≡ read ++ replicate rest zeros → StandsAfter k (length read) (length read + rest) → IsCompleted k n read × (k ≡ Round → us ≡ read)
+read_all Public n us read rest a e after = (tt, λ round. cc)
+read_all Round n us read rest a e after =
+    let none : rest ≡ 0 = omega arith in
+    let same : us ≡ read = e ∙ ap (λ (m : ℕ). read ++ replicate m zeros) none ∙ append-nil read in
+    (subst (NoneOrAll n) same a.none_or_all, λ round. same)
 
 -- the prices of a roll are read
-pub prices_reads : {X : Type 0} (k : Kind) (s : SectionName) (key : X → List ℕ) (es : List X) (us : List (List ℤ)) (put : List (List ℤ) → Parts)
-    → ((vs : List (List ℤ)) (row : Row) (n : ℕ) (v : List ℤ) → NextPosition (price_row k) (λ c. IsPrice) (StandsAfter k) (map key es) vs row n v → AddsIn k s (put vs) row (put (added zeros vs (n, v))))
-    → ArePartsPrices k (length es) us → PricesRead k put (map (λ r. letter_of k s ∷ r) (price_rows k (map key es) us)) (length (map key es)) us
+prices_reads : {X : Type 0} (k : Kind) (s : SectionName) (key : X → List ℕ) (es : List X) (us : List (List ℤ)) (put : List (List ℤ) → Parts)
+    → ((vs : List (List ℤ)) (row : Row) (n : ℕ) (v : List ℤ) → NextPosition (price_row k) (λ c. IsPrice) (StandsAfter k) (map key es) vs row n v → AddsIn k s (put vs) row (put (added zeros vs (n, v)))) → ArePartsPrices k (length es) us
+    → (w : WhereRead k (put []) put (map (λ r. letter_of k s ∷ r) (price_rows k (map key es) us)) zeros (StandsAfter k) us) × IsCompleted k (length (map key es)) w.read × (k ≡ Round → us ≡ w.read)
 prices_reads k s key es us put next a =
-    let w = where_reads k s (price_row k) (λ c. IsPrice) (StandsAfter k) zeros put (map key es) next (price_skipped k) (stands_next k) [] (map key es) [] 0 us refl (omega arith) (subst (StandsAfter k 0) (omega arith) (stands_next k 0)) (prices_first (map key es) us (few k a) (prices k a)) in
-    record { read = w.read; reads = w.reads; complete = complete k w a; same = same k w }
-  where
-    few : (k : Kind) → ArePartsPrices k (length es) us → length us ≤ length (map key es)
-    few Round a = elim a.none_or_all [ inl none ↦ omega arith | inr all ↦ omega (arith, length-map es key) ]
-    few Public a = omega (arith, length-map es key, a.few)
-
-    prices : (k : Kind) → ArePartsPrices k (length es) us → All IsPrice us
-    prices Round a = a.prices
-    prices Public a = a.prices
-
-    same : (k : Kind) → (w : WhereRead k (put []) put (map (λ r. letter_of k s ∷ r) (price_rows k (map key es) us)) zeros (StandsAfter k) us) → k ≡ Round → us ≡ w.read
-    same Round w e = (let none : w.rest ≡ 0 = (let after = w.after in omega arith) in w.are ∙ ap (λ (n : ℕ). w.read ++ replicate n zeros) none ∙ append-nil w.read)
-    same Public w e = cc
-
-    complete : (k : Kind) → (w : WhereRead k (put []) put (map (λ r. letter_of k s ∷ r) (price_rows k (map key es) us)) zeros (StandsAfter k) us) → ArePartsPrices k (length es) us → IsCompleted k (length (map key es)) w.read
-    complete Round w a = subst (NoneOrAll (length (map key es))) (same Round w refl) (elim a.none_or_all [ inl none ↦ inl none | inr all ↦ inr (all ∙ sym (length-map es key)) ])
-    complete Public w a = tt
+    let b = subst (λ (n : ℕ). ArePartsPrices k n us) (sym (length-map es key)) a in
+    let w = where_reads k s (price_row k) (λ c. IsPrice) (StandsAfter k) zeros put (map key es) next (price_skipped k) (stands_next k) [] (map key es) [] 0 us refl (omega arith) (subst (StandsAfter k 0) (omega arith) (stands_next k 0)) (parts_first k (map key es) us b) in
+    let r = read_all k (length (map key es)) us w.read w.rest b w.are w.after in
+    (w, r.0, r.1)
 
 -- the parts with other places and prices
 abbrev with_all : Parts → List (Option ℕ) → List (List ℤ) → List (List ℤ) → List (List ℤ) → Parts
@@ -260,23 +252,23 @@ pub reached : (k : Kind) (p : Parts) → ArePartsOf k p → Reached k p
 reached Round p v =
     let i : Instance = p.instance in
     let zip = zip_first i.students p.places v.places in
-    let w = where_reads Round Pairs pair_row IsPlace (λ m n. m ≤ n) None (λ ks. with_all p ks [] [] []) i.students (λ ks row n x h. record { turn = (refl, (refl, (refl, tt))); entry = (n, x); next = h; made = refl }) unplaced (λ n. omega arith)
+    let w = where_reads Round Pairs pair_row IsPlace (λ m n. m ≤ n) None (λ ks. with_all p ks [] [] []) i.students (λ ks row n x h. record { turn = (refl, (refl, (refl, (refl, tt)))); entry = (n, x); next = h; made = refl }) unplaced (λ n. omega arith)
     [] i.students [] 0 p.places refl (omega arith) (omega arith) zip.0 in
-    let u = prices_reads Round StudentPrices (λ (e : Student). e.code) i.students p.student_prices (λ us. with_all p w.read us [] []) (λ vs row n v h. record { turn = (refl, (refl, tt)); entry = (n, v); next = h; made = refl }) v.student_prices in
-    let y = prices_reads Round ProjectPrices (λ (e : Project). e.code) i.projects p.project_prices (λ ys. with_all p w.read u.read ys []) (λ vs row n v h. record { turn = (u.complete, (refl, tt)); entry = (n, v); next = h; made = refl }) v.project_prices in
-    let z = prices_reads Round SupervisorPrices (λ (e : Supervisor). e.code) i.supervisors p.supervisor_prices (λ zs. with_all p w.read u.read y.read zs) (λ vs row n v h. record { turn = (u.complete, (y.complete, tt)); entry = (n, v); next = h; made = refl }) v.supervisor_prices in
-    let d : Parts = with_all p w.read u.read y.read z.read in
+    let u = prices_reads Round StudentPrices (λ (e : Student). e.code) i.students p.student_prices (λ us. with_all p w.read us [] []) (λ vs row n v h. record { turn = (refl, refl, refl); entry = (n, v); next = h; made = refl }) v.student_prices in
+    let y = prices_reads Round ProjectPrices (λ (e : Project). e.code) i.projects p.project_prices (λ ys. with_all p w.read u.0.read ys []) (λ vs row n v h. record { turn = (u.1, refl); entry = (n, v); next = h; made = refl }) v.project_prices in
+    let z = prices_reads Round SupervisorPrices (λ (e : Supervisor). e.code) i.supervisors p.supervisor_prices (λ zs. with_all p w.read u.0.read y.0.read zs) (λ vs row n v h. record { turn = (u.1, y.1); entry = (n, v); next = h; made = refl }) v.supervisor_prices in
+    let d : Parts = with_all p w.read u.0.read y.0.read z.0.read in
     let none : Option ℕ = None in
     let rest : w.rest ≡ length i.students - length w.read = omega (arith, zip.1, ap length w.are, length-append w.read (replicate w.rest None), length-replicate w.rest none) in
     record {
       draft = d;
       reads = instance_reads Round p.aim i _ d v.instance
           (reads_append Round (with_all p [] [] [] []) (with_all p w.read [] [] []) d (map (λ r. codes "M" ∷ r) (pair_rows i.students p.places)) _ w.reads
-          (reads_append Round (with_all p w.read [] [] []) (with_all p w.read u.read [] []) d (map (λ r. codes "U" ∷ r) (price_rows Round (student_codes i) p.student_prices)) _ u.reads
-          (reads_append Round (with_all p w.read u.read [] []) (with_all p w.read u.read y.read []) d (map (λ r. codes "Y" ∷ r) (price_rows Round (project_codes i) p.project_prices)) _ y.reads
-          (reads_append Round (with_all p w.read u.read y.read []) d d (map (λ r. codes "Z" ∷ r) (price_rows Round (supervisor_codes i) p.supervisor_prices)) [] z.reads refl))));
-      whole = (u.complete, (y.complete, (z.complete, tt)));
-      same = same_parts p.aim p.aim i i p.places _ p.student_prices u.read p.project_prices y.read p.supervisor_prices z.read refl refl (w.are ∙ ap (λ (n : ℕ). w.read ++ replicate n None) rest) (u.same refl) (y.same refl) (z.same refl);
+          (reads_append Round (with_all p w.read [] [] []) (with_all p w.read u.0.read [] []) d (map (λ r. codes "U" ∷ r) (price_rows Round (student_codes i) p.student_prices)) _ u.0.reads
+          (reads_append Round (with_all p w.read u.0.read [] []) (with_all p w.read u.0.read y.0.read []) d (map (λ r. codes "Y" ∷ r) (price_rows Round (project_codes i) p.project_prices)) _ y.0.reads
+          (reads_append Round (with_all p w.read u.0.read y.0.read []) d d (map (λ r. codes "Z" ∷ r) (price_rows Round (supervisor_codes i) p.supervisor_prices)) [] z.0.reads refl))));
+      whole = (u.1, (y.1, (z.1, tt)));
+      same = same_parts p.aim p.aim i i p.places _ p.student_prices u.0.read p.project_prices y.0.read p.supervisor_prices z.0.read refl refl (w.are ∙ ap (λ (n : ℕ). w.read ++ replicate n None) rest) (u.2 refl) (y.2 refl) (z.2 refl);
     }
   where
     unplaced : (e : Student) (x : Option ℕ) → IsPlace e x → pair_row e x ≡ None → (x ≡ None) × ((m n : ℕ) → m ≤ n → m ≤ suc n)
@@ -284,17 +276,17 @@ reached Round p v =
     unplaced e (Some k) h none = cc
 reached Public p v =
     let i : Instance = p.instance in
-    let y = prices_reads Public ProjectPrices (λ (e : Project). e.code) i.projects p.project_prices (λ ys. with_all p [] [] ys []) (λ vs row n v h. record { turn = (tt, (refl, tt)); entry = (n, v); next = h; made = refl }) v.project_prices in
-    let z = prices_reads Public SupervisorPrices (λ (e : Supervisor). e.code) i.supervisors p.supervisor_prices (λ zs. with_all p [] [] y.read zs) (λ vs row n v h. record { turn = (tt, (tt, tt)); entry = (n, v); next = h; made = refl }) v.supervisor_prices in
+    let y = prices_reads Public ProjectPrices (λ (e : Project). e.code) i.projects p.project_prices (λ ys. with_all p [] [] ys []) (λ vs row n v h. record { turn = (tt, refl); entry = (n, v); next = h; made = refl }) v.project_prices in
+    let z = prices_reads Public SupervisorPrices (λ (e : Supervisor). e.code) i.supervisors p.supervisor_prices (λ zs. with_all p [] [] y.0.read zs) (λ vs row n v h. record { turn = (tt, tt); entry = (n, v); next = h; made = refl }) v.supervisor_prices in
     let a : Parts = with_all p [] [] [] [] in
-    let d : Parts = with_all p [] [] y.read z.read in
+    let d : Parts = with_all p [] [] y.0.read z.0.read in
     record {
       draft = d;
       reads = instance_reads Public p.aim i _ d v.instance
           (reads_append Public a a d (map (λ r. codes "M" ∷ r) (pair_rows i.students p.places)) _ (none_reads Public a (codes "M") _ (ap (pair_rows i.students) v.places ∙ no_rows pair_row i.students))
           (reads_append Public a a d (map (λ r. codes "U" ∷ r) (price_rows Public (student_codes i) p.student_prices)) _ (none_reads Public a (codes "U") _ (ap (price_rows Public (student_codes i)) v.student_prices ∙ no_rows (price_row Public) (student_codes i)))
-          (reads_append Public a (with_all p [] [] y.read []) d (map (λ r. codes "Y" ∷ r) (price_rows Public (project_codes i) p.project_prices)) _ y.reads
-          (reads_append Public (with_all p [] [] y.read []) d d (map (λ r. codes "Z" ∷ r) (price_rows Public (supervisor_codes i) p.supervisor_prices)) [] z.reads refl))));
+          (reads_append Public a (with_all p [] [] y.0.read []) d (map (λ r. codes "Y" ∷ r) (price_rows Public (project_codes i) p.project_prices)) _ y.0.reads
+          (reads_append Public (with_all p [] [] y.0.read []) d d (map (λ r. codes "Z" ∷ r) (price_rows Public (supervisor_codes i) p.supervisor_prices)) [] z.0.reads refl))));
       whole = (tt, (tt, (tt, tt)));
       same = tt;
     }

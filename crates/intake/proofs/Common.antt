@@ -1,6 +1,6 @@
 -- The names that most proofs here cite, passed on from one place. Declares nothing.
-pub use Rattle.intake.specs.Inside.Entries.{Adds, AddsEntry, AddsIn, AddsLine, AddsOne, AddsPrice, ArePricedUpTo, ComesNext, Entry, HasNoPairs, HasNoProjects, HasNoStudents, InRound, IsNext, MayComeNext, NextAim, NextEntry, NextPair, NextPosition, NextPrice, NextProject, NextStudent, NextSupervisor, StandsAfter, added, letter_of, with_entry, zeros}
-pub use Rattle.intake.specs.Inside.PartialRound.{AreComplete, AreFirst, ArePricedInOrder, AreUnpriced, HasLine, HasNoPrices, IsBare, IsCompleted, IsDraft, IsDraftReading, IsField, IsFree, IsWhole, NoneOrAll, draft_of, nothing}
+pub use Rattle.intake.specs.Inside.Entries.{Adds, AddsEntry, AddsIn, AddsLine, AddsOne, AddsPrice, ComesNext, Entry, HasNoPairs, HasNoProjects, HasNoStudents, IsNext, MayComeNext, NextAim, NextEntry, NextPair, NextPosition, NextPrice, NextProject, NextStudent, NextSupervisor, StandsAfter, added, letter_of, with_entry, zeros}
+pub use Rattle.intake.specs.Inside.PartialRound.{AreComplete, AreFirst, ArePricedInOrder, AreUnpriced, HasLine, HasNoPrices, IsBare, IsCompleted, IsDraft, IsDraftReading, IsFree, IsWhole, NoneOrAll, draft_of, nothing}
 pub use Rattle.intake.specs.Lines.{Priced, Row, Section, aim_rows, choice_code, ended, has_line, instance_sections, instance_text, is_zero_price, line, lines_of, pair_row, pair_rows, price_row, price_rows, price_section, priced, project_row, public_text, round_text, row_before, rows_where, section_lines, sections, student_letter, student_row, supervisor_row, text_of}
 pub use Rattle.intake.specs.Parts.{ArePartsOf, ArePricesOrNone, ArePricesUpTo, IsInstance, IsListOf, IsPlace, IsPrice, IsPublicText, IsRoll, IsRoundParts, Parts, Rise, code_cmp, least_listed, most_listed}
 pub use Rattle.intake.specs.Reading.{BeginsLines, IsFaultOf, IsFirstBadLine, IsReadBack, IsReading, pieces}

@@ -11,12 +11,12 @@ all_zero (pos zero ∷ v) h = all_zero v (All-tail (λ n. n ≡ pos 0) (pos zero
 all_zero (pos (suc n) ∷ v) h = (let first : pos (suc n) ≡ pos 0 = All-head (λ n. n ≡ pos 0) (pos (suc n)) v h in cc)
 all_zero (negsuc n ∷ v) h = (let first : negsuc n ≡ pos 0 = All-head (λ n. n ≡ pos 0) (negsuc n) v h in cc)
 
--- and only such a price
-pub zero_all : (v : List ℤ) → is_zero_price v ≡ true → All (λ n. n ≡ pos 0) v
-zero_all [] h = All-nil (λ n. n ≡ pos 0)
-zero_all (pos zero ∷ v) h = All-cons (λ n. n ≡ pos 0) (pos 0) v refl (zero_all v h)
-zero_all (pos (suc n) ∷ v) h = cc
-zero_all (negsuc n ∷ v) h = cc
+-- and only one of zeros is
+pub zero_is : (v : List ℤ) → is_zero_price v ≡ true → v ≡ replicate (length v) (pos 0)
+zero_is [] h = refl
+zero_is (pos zero ∷ v) h = ap (λ (w : List ℤ). pos 0 ∷ w) (zero_is v h)
+zero_is (pos (suc n) ∷ v) h = cc
+zero_is (negsuc n ∷ v) h = cc
 
 -- a price with a line has this row
 pub price_written : (k : Kind) (c : List ℕ) (v : List ℤ) → HasLine k v → price_row k c v ≡ Some (c ∷ map signed_decimal v)
@@ -126,17 +126,11 @@ filled_lines cs vs n = blank_after (price_row Public) zeros (λ c. refl) cs vs n
 -- a price without a row costs nothing, and may be passed over
 pub price_skipped : (k : Kind) (c : List ℕ) (v : List ℤ) → IsPrice v → price_row k c v ≡ None → (v ≡ zeros) × ((m n : ℕ) → StandsAfter k m n → StandsAfter k m (suc n))
 price_skipped Round c v p h = cc
-price_skipped Public c v p h = (all v (is_zero (is_zero_price v) refl h) ∙ ap (λ (n : ℕ). replicate n (pos 0)) p.numbers, λ m n l. omega arith)
+price_skipped Public c v p h = (zero_is v (is_zero (is_zero_price v) refl h) ∙ ap (λ (n : ℕ). replicate n (pos 0)) p.numbers, λ m n l. omega arith)
   where
     is_zero : (b : Bool) → is_zero_price v ≡ b → cond (not b) (let o : Option Row = Some (c ∷ map signed_decimal v) in o) None ≡ None → is_zero_price v ≡ true
     is_zero true e h = e
     is_zero false e h = cc
-
-    all : (v : List ℤ) → is_zero_price v ≡ true → v ≡ replicate (length v) (pos 0)
-    all [] h = refl
-    all (pos zero ∷ v) h = ap (λ (w : List ℤ). pos 0 ∷ w) (all v h)
-    all (pos (suc n) ∷ v) h = cc
-    all (negsuc n ∷ v) h = cc
 
 -- the prices of n entries in the parts of a text
 abbrev pub ArePartsPrices : Kind → ℕ → List (List ℤ) → Type 0

@@ -1,6 +1,6 @@
 -- Rows in sections, and their lines.
 use Rattle.std.proofs.Common.{◌≡◌, ℕ, zero, suc, false, List, [], ◌∷◌, ◌++◌, map, flat_map, All, refl, sym, ap, ◌∙◌, append-nil, append_assoc}
-use Rattle.intake.proofs.Common.{slice_split, ◌==◌, ⊤, map-append, All-nil, All-cons, All-append, All-head, All-tail, slice_split_none, slice_split_at, Row, Section, line, section_lines, IsField, IsFree}
+use Rattle.intake.proofs.Common.{slice_split, ◌==◌, ⊤, map-append, All-nil, All-cons, All-append, All-head, All-tail, slice_split_none, slice_split_at, Row, Section, line, section_lines, IsFree}
 use Rattle.intake.proofs.Pieces.{line_of}
 
 -- the fields of a line
@@ -8,9 +8,9 @@ abbrev pub fields_of : List ℕ → List (List ℕ)
 fields_of l = slice_split (λ b. b == 44) l
 
 -- the fields that a line was made of
-pub fields_back : (f : List ℕ) (fs : List (List ℕ)) → All IsField (f ∷ fs) → fields_of (line f fs) ≡ f ∷ fs
-fields_back f [] h = ap fields_of (append-nil f) ∙ slice_split_none (λ b. b == 44) f (All-head IsField f [] h)
-fields_back f (g ∷ fs) h = slice_split_at (λ b. b == 44) f 44 (line g fs) (All-head IsField f (g ∷ fs) h) refl ∙ ap (λ (l : List (List ℕ)). f ∷ l) (fields_back g fs (All-tail IsField f (g ∷ fs) h))
+pub fields_back : (f : List ℕ) (fs : List (List ℕ)) → All (IsFree 44) (f ∷ fs) → fields_of (line f fs) ≡ f ∷ fs
+fields_back f [] h = ap fields_of (append-nil f) ∙ slice_split_none (λ b. b == 44) f (All-head (IsFree 44) f [] h)
+fields_back f (g ∷ fs) h = slice_split_at (λ b. b == 44) f 44 (line g fs) (All-head (IsFree 44) f (g ∷ fs) h) refl ∙ ap (λ (l : List (List ℕ)). f ∷ l) (fields_back g fs (All-tail (IsFree 44) f (g ∷ fs) h))
 
 -- all rows, each with its letter
 abbrev pub full : List Section → List (List (List ℕ))

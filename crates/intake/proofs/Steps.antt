@@ -1,6 +1,6 @@
 -- A draft with one entry more is a draft, and has that row after the others.
 use Rattle.std.proofs.Common.{◌≡◌, ℕ, ◌≤◌, List, [], ◌∷◌, ◌++◌, length, map, drop, Option, None, All, Contains, refl, sym, ap, ◌∙◌, subst, inl, inr, arith}
-use Rattle.intake.proofs.Common.{IsTrue, map_push, length_push, length-map, All-push, All-nil, MAX_QUOTA, is_code, Kind, Round, Public, Supervisor, Project, Student, supervisor_codes, project_codes, student_codes, IsListOf, SectionName, Aims, Supervisors, Projects, Students, Pairs, StudentPrices, ProjectPrices, SupervisorPrices, Parts, IsRoll, IsInstance, IsPlace, Row, sections, priced, supervisor_row, project_row, student_row, pair_row, pair_rows, IsBare, IsDraft, AreFirst, HasNoPairs, HasNoPrices, HasNoProjects, HasNoStudents, NextEntry, MayComeNext, IsNext, Entry, with_entry, letter_of}
+use Rattle.intake.proofs.Common.{AreUnpriced, IsTrue, map_push, length_push, length-map, All-push, All-nil, MAX_QUOTA, is_code, Kind, Round, Public, Supervisor, Project, Student, supervisor_codes, project_codes, student_codes, IsListOf, SectionName, Aims, Supervisors, Projects, Students, Pairs, StudentPrices, ProjectPrices, SupervisorPrices, Parts, IsRoll, IsInstance, IsPlace, Row, sections, priced, supervisor_row, project_row, student_row, pair_row, pair_rows, IsBare, IsDraft, AreFirst, HasNoPairs, HasNoPrices, HasNoProjects, HasNoStudents, NextEntry, MayComeNext, IsNext, Entry, with_entry, letter_of}
 use Rattle.intake.proofs.Prices.{price_pushed, unpriced_turn, unpriced_rows}
 use Rattle.intake.proofs.Sections.{NoRows, Grows, full, letter_at, full_grows}
 use Rattle.intake.proofs.Where.{no_rows, position_pushed}
@@ -105,25 +105,27 @@ step k Students p row e d t next =
     })
     (subst (λ (l : List (Option ℕ)). AreFirst IsPlace (p.instance.students ++ e ∷ []) l) (sym t.0) tt) d.bare t.1
     (refl, (refl, (refl, (refl, m.2, no_pair_rows k p t, no_pair_rows k (with_entry Students p e) t))))
-step Public Pairs p row e d t next = absurd t
+step Public Pairs p row e d t next = (let round = t.0 in cc)
 step Round Pairs p row e d t next =
     let q = position_pushed pair_row IsPlace (λ m n. m ≤ n) None p.instance.students p.places row e.0 e.1 (λ m n h. (h, inr (λ s. refl))) (λ s. tt) d.places next in
-    unpriced_step Round 4 p (with_entry Pairs p e) row d.instance q.0 tt t (refl, (refl, (refl, (refl, (refl, q.1, unpriced_rows Round (priced p) t, unpriced_rows Round (priced p) t)))))
-step Public StudentPrices p row e d t next = absurd t
+    unpriced_step Round 4 p (with_entry Pairs p e) row d.instance q.0 tt t.1 (refl, (refl, (refl, (refl, (refl, q.1, unpriced_rows Round (priced p) t.1, unpriced_rows Round (priced p) t.1)))))
+step Public StudentPrices p row e d t next = (let round = t.0 in cc)
 step Round StudentPrices p row e d t next =
     let q = price_pushed Round (student_codes p.instance) p.student_prices row e d.prices.0 next in
-    let none = unpriced_rows Round (drop 1 (priced p)) t in (
-      record { instance = d.instance; places = d.places; prices = (q.0, inl t, d.prices.2); bare = tt },
+    let later : AreUnpriced (drop 1 (priced p)) = (t.1, (t.2, tt)) in
+    let none = unpriced_rows Round (drop 1 (priced p)) later in (
+      record { instance = d.instance; places = d.places; prices = (q.0, inl later, d.prices.2); bare = tt },
       full_grows 5 (sections Round p) (sections Round (with_entry StudentPrices p e)) row (refl, (refl, (refl, (refl, (refl, (refl, q.1, none, none)))))),
     )
 step k ProjectPrices p row e d t next =
     let q = price_pushed k (project_codes p.instance) p.project_prices row e d.prices.2.0 next in
-    let none = unpriced_rows k (drop 2 (priced p)) t.1 in (
-      record { instance = d.instance; places = d.places; prices = (d.prices.0, inr t.0, (q.0, inl t.1, d.prices.2.2)); bare = d.bare },
+    let later : AreUnpriced (drop 2 (priced p)) = (t.1, tt) in
+    let none = unpriced_rows k (drop 2 (priced p)) later in (
+      record { instance = d.instance; places = d.places; prices = (d.prices.0, inr t.0, (q.0, inl later, d.prices.2.2)); bare = d.bare },
       full_grows 6 (sections k p) (sections k (with_entry ProjectPrices p e)) row (refl, (refl, (refl, (refl, (refl, (refl, (refl, q.1, none, none))))))),
     )
 step k SupervisorPrices p row e d t next =
     let q = price_pushed k (supervisor_codes p.instance) p.supervisor_prices row e d.prices.2.2.0 next in (
-      record { instance = d.instance; places = d.places; prices = (d.prices.0, inr t.0, (d.prices.2.0, inr t.1.0, (q.0, inl tt, tt))); bare = d.bare },
+      record { instance = d.instance; places = d.places; prices = (d.prices.0, inr t.0, (d.prices.2.0, inr t.1, (q.0, inl tt, tt))); bare = d.bare },
       full_grows 7 (sections k p) (sections k (with_entry SupervisorPrices p e)) row (refl, (refl, (refl, (refl, (refl, (refl, (refl, (refl, q.1, tt, tt)))))))),
     )

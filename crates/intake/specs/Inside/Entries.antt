@@ -1,5 +1,5 @@
 -- What a line may add to the parts that were read, section by section.
-use Rattle.std.specs.Prelude.{◌≡◌, Bool, true, false, replicate, ◌-◌, ℕ, zero, suc, ◌<◌, ◌≤◌, ℤ, pos, List, [], ◌∷◌, ◌++◌, length, map, slice_get, codes, Option, None, Some, IsTrue, Contains}
+use Rattle.std.specs.Prelude.{◌≡◌, Bool, true, false, replicate, ◌-◌, ℕ, ◌<◌, ◌≤◌, ℤ, pos, List, [], ◌∷◌, ◌++◌, length, map, slice_get, codes, Option, None, Some, IsTrue, Contains}
 use Rattle.spa.specs.declared.aim.Aim.{Aim}
 use Rattle.spa.specs.declared.TheConstants.{COMPONENTS, MAX_SUPERVISORS, MAX_PROJECTS, MAX_STUDENTS, MAX_QUOTA}
 use Rattle.spa.specs.Text.{is_code}
@@ -9,8 +9,8 @@ use Rattle.intake.specs.declared.section.Kind.TheVariants.{Round, Public}
 use Rattle.intake.specs.declared.section.SectionName.{SectionName}
 use Rattle.intake.specs.declared.section.SectionName.TheVariants.{Aims, Supervisors, Projects, Students, Pairs, StudentPrices, ProjectPrices, SupervisorPrices}
 use Rattle.intake.specs.Parts.{Parts, Rise, IsListOf, IsPlace, IsPrice}
-use Rattle.intake.specs.Lines.{Row, Priced, priced, aim_rows, supervisor_row, project_row, student_letter, student_row, pair_row, price_row}
-use Rattle.intake.specs.Inside.PartialRound.{HasNoPrices, IsCompleted, AreUnpriced}
+use Rattle.intake.specs.Lines.{Row, aim_rows, supervisor_row, project_row, student_letter, student_row, pair_row, price_row}
+use Rattle.intake.specs.Inside.PartialRound.{HasNoPrices, IsCompleted}
 
 -- the letter of a section's lines
 abbrev pub letter_of : Kind → SectionName → List ℕ
@@ -72,12 +72,6 @@ StandsAfter Public m n = m ≤ n
 abbrev pub NextPrice : Kind → List (List ℕ) → List (List ℤ) → Row → ℕ × List ℤ → Type 0
 NextPrice k codes prices row e = NextPosition (price_row k) (λ c. IsPrice) (StandsAfter k) codes prices row e.0 e.1
 
--- the prices of the roll at position n are read: those before are complete, and after it none was read
-abbrev pub ArePricedUpTo : Kind → ℕ → List Priced → Type 0
-ArePricedUpTo k n [] = ⊥
-ArePricedUpTo k zero (s ∷ ss) = AreUnpriced ss
-ArePricedUpTo k (suc n) (s ∷ ss) = IsCompleted k (length s.codes) s.prices × ArePricedUpTo k n ss
-
 -- what a line of a section adds: of a pair or a price also the position
 abbrev pub Entry : SectionName → Type 0
 Entry Aims = Aim
@@ -101,21 +95,16 @@ HasNoStudents p = (p.instance.students ≡ []) × HasNoPairs p
 abbrev pub HasNoProjects : Parts → Type 0
 HasNoProjects p = (p.instance.projects ≡ []) × HasNoStudents p
 
--- so it is in a round, and a result has nothing of this
-abbrev pub InRound : Kind → Type 0 → Type 0
-InRound Round T = T
-InRound Public T = ⊥
-
 -- a line of the section may come: no later section has begun, and the prices of the rolls before are complete
 abbrev pub MayComeNext : Kind → SectionName → Parts → Type 0
 MayComeNext k Aims p = (p.instance.supervisors ≡ []) × HasNoProjects p
 MayComeNext k Supervisors p = HasNoProjects p
 MayComeNext k Projects p = HasNoStudents p
 MayComeNext k Students p = HasNoPairs p
-MayComeNext k Pairs p = InRound k (HasNoPrices p)
-MayComeNext k StudentPrices p = InRound k (ArePricedUpTo k 0 (priced p))
-MayComeNext k ProjectPrices p = ArePricedUpTo k 1 (priced p)
-MayComeNext k SupervisorPrices p = ArePricedUpTo k 2 (priced p)
+MayComeNext k Pairs p = (k ≡ Round) × HasNoPrices p
+MayComeNext k StudentPrices p = (k ≡ Round) × (p.project_prices ≡ []) × (p.supervisor_prices ≡ [])
+MayComeNext k ProjectPrices p = IsCompleted k (length (student_codes p.instance)) p.student_prices × (p.supervisor_prices ≡ [])
+MayComeNext k SupervisorPrices p = IsCompleted k (length (student_codes p.instance)) p.student_prices × IsCompleted k (length (project_codes p.instance)) p.project_prices
 
 -- the row is that of the entry, which comes next in the section
 abbrev pub IsNext : Kind → (s : SectionName) → Parts → Row → Entry s → Type 0

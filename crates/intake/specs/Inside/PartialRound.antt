@@ -91,10 +91,6 @@ nothing = record {
 abbrev pub IsFree : ℕ → List ℕ → Type 0
 IsFree c text = All (λ b. (b == c) ≡ false) text
 
--- a field has no comma in it
-abbrev pub IsField : List ℕ → Type 0
-IsField f = IsFree 44 f
-
 -- the text is that of a draft that may end here, or the fault is its own
 abbrev pub IsDraftReading : Kind → List ℕ → Result PartialRound RoundFault → Type 0
 IsDraftReading k text (Ok d) = IsDraft k (draft_of d) × IsWhole k (draft_of d) × (text ≡ text_of k (draft_of d)) × (length text ≤ MAX_BYTES)
