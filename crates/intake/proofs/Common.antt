@@ -11,7 +11,9 @@ pub use Rattle.intake.specs.declared.section.Kind.{Kind}
 pub use Rattle.intake.specs.declared.section.Kind.TheVariants.{Round, Public}
 pub use Rattle.intake.specs.declared.section.SectionName.{SectionName}
 pub use Rattle.intake.specs.declared.section.SectionName.TheVariants.{Aims, Pairs, ProjectPrices, Projects, StudentPrices, Students, SupervisorPrices, Supervisors}
+pub use Rattle.spa.proofs.CodeLists.{apart_more}
 pub use Rattle.spa.proofs.Places.{slice_get_at}
+pub use Rattle.spa.proofs.RollLists.{contained_code, known_more, same_position}
 pub use Rattle.spa.proofs.Texts.{code_bytes, code_utf8}
 pub use Rattle.spa.specs.Codes.{AreApart, IsFirstRepeated, code_at}
 pub use Rattle.spa.specs.Inside.Codes.{Finds}

@@ -1,8 +1,8 @@
 -- A list of projects, read field by field.
 use Rattle.std.proofs.Common.{◌≡◌, ◌≢◌, ℕ, zero, suc, ◌+◌, ◌<◌, List, [], ◌∷◌, ◌++◌, length, map, get_or, take, slice_get, Option, Some, None, refl, sym, ap, ◌∙◌, arith}
-use Rattle.intake.proofs.Common.{get_or_from_slice_get, Bor, take_more, length-take-le, length-map, map-append, Finds, IsSoundUpTo, IsListOf, Kind, Rise}
+use Rattle.intake.proofs.Common.{apart_more, contained_code, known_more, get_or_from_slice_get, Bor, take_more, length-take-le, length-map, map-append, Finds, IsSoundUpTo, IsListOf, Kind, Rise}
 use Rattle.intake.proofs.PairLine.{one_place}
-use Rattle.intake.proofs.Rolls.{known_more, apart_more, contained, standing}
+use Rattle.intake.proofs.Rolls.{standing}
 
 -- what a look-up past the end gives
 abbrev pub blank : Bor (List ℕ)
@@ -40,7 +40,7 @@ pub sound_more : (codes list seen : List (List ℕ)) (n k p : ℕ) (code : List 
 sound_more codes list seen n k p code h here e so_far known fresh =
     let few : length seen ≡ k = ap length e ∙ length-take-le k list (omega arith) in
     record {
-      known = known_more codes list k code so_far.known here (contained codes p code known.1);
+      known = known_more codes list k code so_far.known here (contained_code codes p code known.1);
       apart = apart_more list k code here so_far.apart (λ q l same. fresh q (omega arith) (ap (λ (l : List (List ℕ)). slice_get l q) e ∙ taken list k q l ∙ same));
     }
 

@@ -1,11 +1,11 @@
 -- A line adds one thing at most.
 use Rattle.std.proofs.Common.{◌≡◌, ℕ, suc, ◌-◌, ◌<◌, ◌≤◌, ℤ, pos, Bool, true, false, cond, List, [], ◌∷◌, length, map, get_or, slice_get, codes, Option, Some, None, decimal, refl, sym, ap, ◌∙◌, subst, arith, rules}
-use Rattle.intake.proofs.Common.{slice_get_at, signed_decimal, bytes_eq, decimal_injective, signed_decimal_injective, IsPlaceOf, Aim, MAX_QUOTA, code_at, AreApart, Supervisor, Project, Student, project_codes, IsListOf, InRange, Kind, Parts, Rise, IsPlace, IsPrice, Row, choice_code, aim_rows, supervisor_row, project_row, student_row, pair_row, price_row, SectionName, Aims, Supervisors, Projects, Students, Pairs, StudentPrices, ProjectPrices, SupervisorPrices, IsDraft, Adds, AddsEntry, AddsIn, AddsLine, Entry, MayComeNext, IsNext, NextPosition, NextPrice, letter_of, with_entry}
+use Rattle.intake.proofs.Common.{same_position, slice_get_at, signed_decimal, bytes_eq, decimal_injective, signed_decimal_injective, IsPlaceOf, Aim, MAX_QUOTA, code_at, AreApart, Supervisor, Project, Student, project_codes, IsListOf, InRange, Kind, Parts, Rise, IsPlace, IsPrice, Row, choice_code, aim_rows, supervisor_row, project_row, student_row, pair_row, price_row, SectionName, Aims, Supervisors, Projects, Students, Pairs, StudentPrices, ProjectPrices, SupervisorPrices, IsDraft, Adds, AddsEntry, AddsIn, AddsLine, Entry, MayComeNext, IsNext, NextPosition, NextPrice, letter_of, with_entry}
 use Rattle.std.proofs.lemmas.List.{map-id}
 use Rattle.intake.proofs.Lists.{first_field, other_fields}
 use Rattle.intake.proofs.Numbers.{small}
 use Rattle.intake.proofs.Order.{get_mapped}
-use Rattle.intake.proofs.PairLine.{all_found, one_at, one_place}
+use Rattle.intake.proofs.PairLine.{all_found, one_place}
 use Rattle.intake.proofs.Prices.{price_head, price_is}
 use Rattle.intake.proofs.Where.{code_of}
 
@@ -44,7 +44,7 @@ same_student x y e =
 
 -- a project stands at one position of a list
 pub one_listed : (list : List (List ℕ)) (k l : ℕ) → AreApart list (length list) → k < length list → l < length list → code_at list k ≡ code_at list l → k ≡ l
-one_listed list k l apart h i e = one_at list k l (code_at list l) apart (slice_get_at list k [] (code_at list l) h e) (slice_get_at list l [] (code_at list l) i refl)
+one_listed list k l apart h i e = same_position list k l (code_at list l) apart (slice_get_at list k [] (code_at list l) h e) (slice_get_at list l [] (code_at list l) i refl)
 
 -- and so at one place
 one_choice : (list : List (List ℕ)) (k l : ℕ) → AreApart list (length list) → IsPlaceOf list k → IsPlaceOf list l → choice_code list k ≡ choice_code list l → k ≡ l

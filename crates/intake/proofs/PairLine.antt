@@ -1,6 +1,6 @@
 -- What a pair's line refers to.
-use Rattle.std.proofs.Common.{◌≡◌, ℕ, zero, suc, ◌-◌, ◌<◌, ◌≤◌, List, [], ◌∷◌, length, map, get_or, slice_get, Option, Some, None, Vec, Global, All, refl, sym, ap, ◌∙◌, subst, inl, inr, arith}
-use Rattle.intake.proofs.Common.{get_or_from_slice_get, slice_get_at, slice_get_read, slice_get_within, cases_order, AreApart, RANKS, IsPlaceOf, Code, Finds, Student, students_of, student_codes, Parts, Rise, choice_code, NextPair}
+use Rattle.std.proofs.Common.{◌≡◌, ℕ, zero, suc, ◌-◌, ◌<◌, ◌≤◌, List, [], ◌∷◌, length, map, get_or, slice_get, Option, Some, None, Vec, Global, All, refl, sym, ap, ◌∙◌, subst, arith}
+use Rattle.intake.proofs.Common.{same_position, get_or_from_slice_get, slice_get_at, slice_get_read, slice_get_within, AreApart, RANKS, IsPlaceOf, Code, Finds, Student, students_of, student_codes, Parts, Rise, choice_code, NextPair}
 use Rattle.intake.proofs.Order.{cmp_apart, get_mapped}
 
 -- what is found satisfies what all do
@@ -22,19 +22,9 @@ rise_apart codes rise m n h l same =
     let code : List ℕ = get_or codes n [] in
     cmp_apart (get_or codes m []) code (rise m n [] h l) (get_or_from_slice_get codes m code [] (same ∙ slice_get_at codes n [] code l refl))
 
--- in codes that are distinct each stands once
-pub one_at : (codes : List (List ℕ)) (m n : ℕ) (code : List ℕ) → AreApart codes (length codes) → slice_get codes m ≡ Some code → slice_get codes n ≡ Some code → m ≡ n
-one_at codes m n code apart e f = elim (cases_order m n) [
-  | inl same ↦ same
-  | inr o ↦ elim o [
-    | inl h ↦ absurd (apart m n h (slice_get_within codes n code f) (e ∙ sym f))
-    | inr h ↦ absurd (apart n m h (slice_get_within codes m code e) (f ∙ sym e))
-  ]
-]
-
 -- and so in codes that rise
 pub one_place : (codes : List (List ℕ)) (m n : ℕ) (code : List ℕ) → Rise codes → slice_get codes m ≡ Some code → slice_get codes n ≡ Some code → m ≡ n
-one_place codes m n code rise e f = one_at codes m n code (rise_apart codes rise) e f
+one_place codes m n code rise e f = same_position codes m n code (rise_apart codes rise) e f
 
 -- what a pair's line refers to, where the line has these two codes
 pub record Refers (p : Parts) (s : ℕ) (a b : List ℕ) (e : Student) : Type 0 where

@@ -1,6 +1,6 @@
 -- What is left to write.
-use Rattle.std.proofs.Common.{◌≡◌, ℕ, false, ◌+◌, ◌-◌, ◌<◌, ℤ, List, [], ◌∷◌, ◌++◌, length, get_or, map, drop, codes, Option, Some, None, flat_map, refl, sym, ap, ◌∙◌, subst, inl, inr, arith, append_assoc, append-nil, add-one, drop-cons}
-use Rattle.intake.proofs.Common.{signed_decimal, cases_lt, get_or-map, Aim, IsPlaceOf, choice_at, code_at, flat_map-append, student_codes, Named, IsFit, instance_of, supervisors_named, projects_named, students_named, Prices, proved, sections, instance_sections, Section, instance_text, round_text, line, ended, section_lines, aim_rows, supervisor_row, project_row, student_row, pair_rows, price_rows, ⊤, Parts, Kind, Round, Public, Row, HasLine, has_line, pair_row, posted_parts, price_row, public_text, assigned_list}
+use Rattle.std.proofs.Common.{◌≡◌, ℕ, false, ◌+◌, ◌-◌, ◌<◌, ℤ, List, [], ◌∷◌, ◌++◌, length, get_or, map, drop, codes, Option, Some, None, flat_map, refl, sym, ap, ◌∙◌, arith, append_assoc, append-nil, add-one, drop-cons}
+use Rattle.intake.proofs.Common.{signed_decimal, get_or-map, Aim, IsPlaceOf, choice_at, code_at, flat_map-append, student_codes, Named, IsFit, instance_of, supervisors_named, projects_named, students_named, Prices, proved, sections, instance_sections, Section, instance_text, round_text, line, ended, section_lines, aim_rows, supervisor_row, project_row, student_row, pair_rows, price_rows, ⊤, Parts, Kind, Round, Public, Row, HasLine, has_line, pair_row, posted_parts, price_row, public_text, assigned_list}
 use Rattle.public_result.specs.declared.posted.Posted.{Posted}
 use Rattle.intake.proofs.Where.{no_rows}
 
@@ -88,14 +88,6 @@ next_price k letter cs vs n code v h i code_is v_is e = rw (drop-cons cs n [], d
 -- of a price without one there is none
 pub no_price : (k : Kind) (letter : List ℕ) (cs : List (List ℕ)) (vs : List (List ℤ)) (n : ℕ) → n < length cs → n < length vs → has_line k (get_or vs n []) ≡ false → price_text k letter (drop n cs) (drop n vs) ≡ price_text k letter (drop (n + 1) cs) (drop (n + 1) vs)
 no_price k letter cs vs n h i e = rw (drop-cons cs n [], drop-cons vs n [], e) (simp add-one)
-
--- what holds of the first n elements, and of one more
-pub one_more : {X : Type 0} (P : X → Type 0) (xs : List X) (n : ℕ) → ((k : ℕ) (d : X) → k < n → P (get_or xs k d)) → ((d : X) → P (get_or xs n d))
-    → (k : ℕ) (d : X) → k < n + 1 → P (get_or xs k d)
-one_more P xs n before here k d below = elim (cases_lt k n) [
-  | inl less ↦ before k d less
-  | inr past ↦ subst (λ m. P (get_or xs m d)) (let same : n ≡ k = omega arith in same) (here d)
-]
 
 -- the instance's sections, and then those of a matching and prices
 pub joined : (i : Named) (aim : Aim) (places : List (Option ℕ)) (prices : Prices) (out new : List ℕ) → out ≡ instance_text aim (instance_of i)

@@ -1,8 +1,7 @@
 -- What is written is the parts of a round.
 use Rattle.std.proofs.Common.{◌≡◌, ◌≢◌, ℕ, suc, ◌<◌, ◌≤◌, inl, inr, ℤ, List, [], ◌∷◌, length, map, get_or, slice_get, Option, Some, None, All, Contains, refl, sym, ap, ◌∙◌, subst, arith}
-use Rattle.intake.proofs.Common.{slice_get_at, IsTrue, AllPairs, AllZip, length-map, get_or_default, All-nil, All-cons, All-head, All-tail, Aim, IsPlaceOf, COMPONENTS, RANKS, MAX_QUOTA, is_code, code_at, AreApart, Supervisor, Project, Student, supervisor_codes, project_codes, student_codes, Named, IsFit, instance_of, supervisors_named, projects_named, students_named, IsWithin, IsListOf, HasPlaces, EachInRange, AllInRange, HasShape, Prices, Rise, IsRoll, IsPlace, ArePricesOrNone, IsInstance, Round, IsRoundParts, alone, proved}
+use Rattle.intake.proofs.Common.{contained_code, slice_get_at, IsTrue, AllPairs, AllZip, length-map, get_or_default, All-nil, All-cons, All-head, All-tail, Aim, IsPlaceOf, COMPONENTS, RANKS, MAX_QUOTA, is_code, code_at, AreApart, Supervisor, Project, Student, supervisor_codes, project_codes, student_codes, Named, IsFit, instance_of, supervisors_named, projects_named, students_named, IsWithin, IsListOf, HasPlaces, EachInRange, AllInRange, HasShape, Prices, Rise, IsRoll, IsPlace, ArePricesOrNone, IsInstance, Round, IsRoundParts, alone, proved}
 use Rattle.intake.proofs.Order.{get_mapped}
-use Rattle.intake.proofs.Rolls.{contained}
 use Rattle.intake.proofs.One.{one_listed}
 use Rattle.intake.proofs.RestOfText.{named_supervisors, named_projects, named_students}
 
@@ -25,7 +24,7 @@ offered_named ss (c ∷ cs) [] h = All-nil (λ (e : Project). Contains ss e.supe
 offered_named ss (c ∷ cs) (p ∷ ps) h =
     let known : p.0 < length ss = All-head (λ (p : ℕ × ℕ). p.0 < length ss) p ps h in
     let e : Project = record { code = c; supervisor = code_at ss p.0; quota = p.1 } in
-    All-cons (λ (e : Project). Contains ss e.supervisor) e (projects_named ss cs ps) (contained ss p.0 (code_at ss p.0) (slice_get_at ss p.0 [] (code_at ss p.0) known refl)) (offered_named ss cs ps (All-tail (λ (p : ℕ × ℕ). p.0 < length ss) p ps h))
+    All-cons (λ (e : Project). Contains ss e.supervisor) e (projects_named ss cs ps) (contained_code ss p.0 (code_at ss p.0) (slice_get_at ss p.0 [] (code_at ss p.0) known refl)) (offered_named ss cs ps (All-tail (λ (p : ℕ × ℕ). p.0 < length ss) p ps h))
 
 -- the code at a place of a list of positions
 code_here : (codes : List (List ℕ)) (ps : List ℕ) (k : ℕ) → k < length ps → slice_get (map (code_at codes) ps) k ≡ Some (code_at codes (get_or ps k 0))
@@ -45,7 +44,7 @@ sound_named codes ps apart some few known distinct =
             let within : k < length ps = omega arith in
             let p : ℕ = get_or ps k 0 in
             let at : p < length codes = known k 0 within in
-            subst (λ (c : List ℕ). Contains codes c) (same_value (code_at codes p) code (sym (code_here codes ps k within) ∙ e)) (contained codes p (code_at codes p) (slice_get_at codes p [] (code_at codes p) at refl));
+            subst (λ (c : List ℕ). Contains codes c) (same_value (code_at codes p) code (sym (code_here codes ps k within) ∙ e)) (contained_code codes p (code_at codes p) (slice_get_at codes p [] (code_at codes p) at refl));
         apart = λ k l h i e.
             let within : l < length ps = omega arith in
             let before : k < length ps = omega arith in

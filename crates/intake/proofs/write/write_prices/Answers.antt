@@ -1,6 +1,6 @@
-use Rattle.std.proofs.Common.{◌≡◌, ℕ, ◌+◌, ◌<◌, false, inl, inr, [], ◌∷◌, ◌++◌, length, get_or, map, drop, string_bytes, refl, sym, ap, ◌∙◌, arith}
+use Rattle.std.proofs.Common.{◌≡◌, ℕ, ◌+◌, ◌<◌, false, inl, inr, [], ◌∷◌, ◌++◌, length, get_or, map, drop, string_bytes, refl, sym, ap, ◌∙◌, arith, below_more}
 use Rattle.intake.proofs.Common.{signed_decimal, cases_Bool, get_or_read, get_or_default, COMPONENTS, has_line, line}
-use Rattle.intake.proofs.RestOfText.{price_text, next, next_price, no_price, one_more}
+use Rattle.intake.proofs.RestOfText.{price_text, next, next_price, no_price}
 use Rattle.intake.proofs.write.write_prices.Goals as goal
 use Rattle.intake.proofs.write.write_prices.Goals.{then-has_line+in_ok-push_price, else-has_line}
 
@@ -25,5 +25,5 @@ loop-n-preserved c =
             ]) in
             ap (λ out. string_bytes out ++ rest) w.out-is ∙ ap (λ r. string_bytes c.loop-n.out ++ r) (sym (no_price c.args.kind c.args.letter.now c.args.roll.now c.args.prices.now n coded priced none)) ∙ c.loop-n.invariant.text
       ];
-      numbers = one_more (λ v. length v ≡ COMPONENTS) c.args.prices.now n c.loop-n.invariant.numbers (λ d. ap length (get_or_default c.args.prices.now n d [] priced) ∙ c.told-prices n priced);
+      numbers = λ k d. below_more (λ k. length (get_or c.args.prices.now k d) ≡ COMPONENTS) n (λ k l. c.loop-n.invariant.numbers k d l) (ap length (get_or_default c.args.prices.now n d [] priced) ∙ c.told-prices n priced) k;
     }

@@ -1,10 +1,10 @@
 use Rattle.std.proofs.Common.{◌≡◌, ℕ, List, [], ◌∷◌, length, map, get_or, slice_get, Some, decimal, sym, ap, subst, ◌∙◌, arith}
-use Rattle.intake.proofs.Common.{get_or_from_slice_get, length-map, supervisors_of, Rise, IsRoll, Project, projects_of, draft_of, map_push}
+use Rattle.intake.proofs.Common.{contained_code, get_or_from_slice_get, length-map, supervisors_of, Rise, IsRoll, Project, projects_of, draft_of, map_push}
 use Rattle.intake.proofs.RowInDraft.{three_fields}
 use Rattle.intake.proofs.Lists.{blank, first_field}
 use Rattle.intake.proofs.Order.{key_at}
 use Rattle.intake.proofs.PairLine.{nowhere}
-use Rattle.intake.proofs.Rolls.{project_keys, supervisor_keys, comes_moved, contained, standing}
+use Rattle.intake.proofs.Rolls.{project_keys, supervisor_keys, comes_moved, standing}
 use Rattle.intake.proofs.draft.PartialRound.add_project.Goals as goal
 
 pub next_code-requires : goal.next_code-requires
@@ -43,7 +43,7 @@ returns c =
             ∙ ap (λ (x : List ℕ). c.in-Some.code ∷ x ∷ (get_or c.args.fields.now 2 blank).now ∷ []) (sym supervisor)
             ∙ ap (λ (x : List ℕ). c.in-Some.code ∷ c.copy-supervisor.result ∷ x ∷ []) c.in-Some-read_quota.ensures.1;
         code = comes_moved _ _ _ _ _ keys (sym read.0) read.1;
-        fits = (contained _ owner c.copy-supervisor.result (at ∙ ap Some (sym supervisor)), c.in-Some-read_quota.ensures.0);
+        fits = (contained_code _ owner c.copy-supervisor.result (at ∙ ap Some (sym supervisor)), c.in-Some-read_quota.ensures.0);
       },
       ap (λ (l : List Project). let p = draft_of c.args.self.now in record p { instance = record p.instance { projects = l } })
           (ap projects_of c.in_ok-push.ensures.items ∙ map_push (λ e. record { code = e.0; supervisor = e.1; quota = e.2 }) c.args.self.now.projects.items (c.in-Some.code, c.copy-supervisor.result, c.in-Some-read_quota.quota)),
