@@ -43,7 +43,7 @@ pub use generous::{Generous, generous_law};
 pub use guesses::Guesses;
 pub use instance::Instance;
 pub use label::Label;
-pub use laws::{aim_law, code_law, list_law, order_law, place_law, price_law};
+pub use laws::code_law;
 pub use lex::{Lex, lex_law};
 pub use matching::{MatchFault, Matching, profile, total_weight};
 pub use order::precedes;
