@@ -1,6 +1,6 @@
 -- An import makes its rows one after another. While it is under way, what is left decides as the whole did from the office
 -- before; at the end nothing is left, so all rows were made.
-use Rattle.office.proofs.Common.{append_assoc, ◌&&◌, not, nat_le, Bool, true, false, is_some, Ok, if◌then◌else◌, option_map, unwrap_or, MAX_IMPORTS, Import, ImportTable, Add, Refusal, Plain, Done, Change, of_code, find, rises, State, import_key, import_of, has_import, kept_rows, Transforms, import_cells, first, plain_refusal, import_tests, after_plain, or_else, at_record, rows_refusal, after_rows, import_refusal, with_import, IsDone, Imports, allowed, put_or_added, changes_of, changes_of_rows, import_changes, ◌≡◌, ℕ, suc, [], ◌∷◌, ◌++◌, Option, Some, None, refl, sym, ap, subst, ◌∙◌, arith, ◌+◌, List, length, plain_reply}
+use Rattle.office.proofs.Common.{append_assoc, ◌&&◌, not, nat_le, Bool, true, false, is_some, Ok, if◌then◌else◌, option_map, unwrap_or, MAX_IMPORTS, Import, ImportTable, Add, Refusal, Plain, Done, Change, of_code, find, rises, State, import_key, import_of, has_import, kept_rows, Transforms, import_cells, first, plain_refusal, import_tests, after_plain, or_else, at_record, rows_refusal, after_rows, import_refusal, with_import, IsDone, Imports, allowed, put_or_added, changes_of, changes_of_rows, import_changes, ◌≡◌, ℕ, suc, [], ◌∷◌, ◌++◌, Option, Some, None, refl, sym, ap, subst, ◌∙◌, arith, ◌+◌, List, length}
 use Rattle.office_model.specs.declared.import.ImportKind.{ImportKind}
 use Rattle.office.proofs.changes.ImportChanges.{keep_none}
 use Rattle.office.proofs.changes.Changes.{transforms_follow}
@@ -12,19 +12,6 @@ use Rattle.office_model.specs.declared.request.Reply.TheVariants as reply
 -- no changes transform no rows
 pub none_transforms : (o : State) → Transforms [] o o
 none_transforms o = record { fresh = tt; rows = λ table. IsPermutation-refl _ }
-
--- the step of a read
-pub read_done : (q : Plain) (o : State) (done : Done) → plain_refusal o q ≡ None → o ≡ after_plain q o → Some done.reply ≡ plain_reply q o → done.changes.items ≡ [] → IsDone q o o done
-read_done q o done none after answer unchanged = record {
-  allowed = none;
-  after = after;
-  reply = answer;
-  changes = subst (λ cs. Transforms cs o o) (sym unchanged) (none_transforms o);
-}
-
--- the same, where the request is named in two ways
-pub read_named : (p q : Plain) → p ≡ q → (o : State) (done : Done) → plain_refusal o q ≡ None → o ≡ after_plain q o → Some done.reply ≡ plain_reply q o → done.changes.items ≡ [] → IsDone p o o done
-read_named p q same o done none after answer unchanged = subst (λ (p : Plain). IsDone p o o done) (sym same) (read_done q o done none after answer unchanged)
 
 -- an import's row is added
 abbrev pub import_added : Import → Change
