@@ -63,7 +63,7 @@ impl Row {
 
     /// Returns the same row in a table with columns of the same kinds.
     pub fn moved(self, table: Table) -> Self
-        requires { IsRow (record self { table = table }) }
+        requires { IsRow self → IsRow (record self { table = table }) }
         ensures { result ≡ record self { table = table } }
     {
         let Row { table: _, cells } = self;
