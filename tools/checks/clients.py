@@ -1,7 +1,7 @@
 #!/usr/bin/env python3
 """Talks to the program as clients and shells do, where the tests of the gate, which have one thread and no other program, cannot.
 
-tools/checks/clients.py SPADESK
+tools/checks/clients.py SPADESK..    one program, or the same as several compilers build it
 
 Each client is served by one `serve`, in turn; what the program prints of it is compared. A client that would be waited for, or
 that waits, for more than five seconds fails.
@@ -42,6 +42,9 @@ CLIENTS = [
     ("comes after all these", [GET, 1, SHUT], "1 answers, closed"),
 ]
 
+# A result that is posted.
+PUBLIC = "S,L,5\nP,P,L,1\nP,Q,L,1\nP,Z,L,0\nR,A,Q\nR,C,P\nY,P,0,1,-1,0,0,0,0,0,0,0,0,0,0\nY,Z,0,2,-2,0,0,0,0,0,0,0,0,0,0\n"
+
 # The words of a line; its status, the whole of its standard output, and how its standard error begins.
 LINES = [
     (["import", "school.db", "students", "I1", "no-such.csv"], 1, "", "refused 2: Storage\n"),
@@ -49,6 +52,7 @@ LINES = [
     (["report", "school.db", "profile", "1", "2"], 2, "", "error: unexpected argument '2' found\n"),
     ([b"\xff"], 2, "", "error: invalid UTF-8 was detected in one or more arguments\n"),
     (["check", "round.txt"], 1, "fault 2\n", ""),
+    (["check-own", "public.txt", "A", "P", "Q", "P"], 1, "fault 7\n", ""),
     (["solve", "no-round.txt"], 1, "", "bad line 2\n"),
 ]
 
@@ -101,7 +105,7 @@ def serve_clients(program, folder):
 
 def run_lines(program, folder):
     """Runs each line. Gives what went otherwise."""
-    for name, text in (("round.txt", "S,L,5\n"), ("no-round.txt", "S,L,5\nX\n")):
+    for name, text in (("round.txt", "S,L,5\n"), ("no-round.txt", "S,L,5\nX\n"), ("public.txt", PUBLIC)):
         written(text, os.path.join(folder, name))
     for words, status, out, err in LINES:
         ran = subprocess.run([program, *words], cwd=folder, capture_output=True, text=True, timeout=60)
@@ -110,13 +114,13 @@ def run_lines(program, folder):
             yield f"{words}: {ran.returncode}, {ran.stdout!r}, {ran.stderr!r}"
 
 
-def main(program):
-    with tempfile.TemporaryDirectory() as folder:
-        program = os.path.abspath(program)
-        otherwise = [*serve_clients(program, folder), *run_lines(program, folder)]
-    if otherwise:
-        sys.exit("clients.py: " + "\n".join(otherwise))
-    print(f"{len(CLIENTS)} clients and {len(LINES)} lines, each as it should be")
+def main(*programs):
+    for program in map(os.path.abspath, programs):
+        with tempfile.TemporaryDirectory() as folder:
+            otherwise = [*serve_clients(program, folder), *run_lines(program, folder)]
+        if otherwise:
+            sys.exit(f"clients.py: {program}\n" + "\n".join(otherwise))
+    print(f"{len(programs)} programs, {len(CLIENTS)} clients and {len(LINES)} lines each, all as it should be")
 
 
 if __name__ == "__main__":
