@@ -1,7 +1,8 @@
 """Edits of a crate's bodies: mutants, mistakes and twins, and the functions that each strikes.
 
 An edit is a file crates/CRATE/FOLDER/NAME.edit: a line `why:`, and for each text that it changes lines `file:`, `old:` and `new:`. One that
-changes a constant names in a line `strikes:` a function that shows it. Of `must-fail` `rt ci` tries each by itself; of `mistakes` and `twins`
+changes a constant names in a line `strikes:` a function that shows it. One that no stored answer refuses may name in a line `at:` the goal
+at which a search fails, with its arguments, as `returns c`. Of `must-fail` `rt ci` tries each by itself; of `mistakes` and `twins`
 `mistakes.py` tries many in one check. A mutant and a mistake must be refused, a twin must be proved. A twin that says `refused:` is right,
 and is refused for its shape alone, as that line tells.
 """
@@ -41,7 +42,7 @@ class Text:
 
     def __init__(self, path, text):
         parts = path.removeprefix("src/").removesuffix(".rt").split("/")
-        module = [part for part in parts if part not in ("lib", "main", "mod")]
+        module = self.module = [part for part in parts if part not in ("lib", "main", "mod")]
         # a trait's own functions, and those of an impl of one, stand there once
         self.functions, self.once, owner, is_once, self.text = [], set(), [], False, text
         for number, line in enumerate(text.split("\n")):
@@ -85,7 +86,7 @@ class Edit:
     def __init__(self, path):
         _, self.crate, self.folder, name = path.split("/")
         self.name, self.pairs, self.texts, self.struck, self.fault = name.removesuffix(".edit"), [], {}, set(), None
-        said = {"why": [], "also": [], "refused": [], "strikes": []}
+        said = {"why": [], "also": [], "refused": [], "strikes": [], "at": []}
         file = old = ""
         for line in read(path).split("\n"):
             word, _, rest = line.partition(":")
@@ -99,7 +100,7 @@ class Edit:
             elif word == "new":
                 self.pairs.append((file, old, rest))
         self.whys, self.is_refused_for_shape = [*said["why"], *said["also"]], bool(said["refused"])
-        self.is_twin = self.folder == "twins"
+        self.is_twin, self.goals = self.folder == "twins", said["at"]
         self.wanted = "proved" if self.is_twin and not self.is_refused_for_shape else "refused"
         if len(said["why"]) != 1:
             self.fault = "it says what goes wrong in one line `why:`"
@@ -130,6 +131,15 @@ class Edit:
         text = Text(file, read("crates", self.crate, file))
         if name not in text.once:
             self.copied, self.struck = name, {f"{name}_tried_{number}"}
+
+    def place(self):
+        """Where the prover has the copy, below the crate: a method is below the module of its type."""
+        (name,) = self.struck
+        parts, declares = name.split("::"), re.compile(rf"^(?:pub(?:\([a-z]+\))? )?(?:struct|enum) {name.split('::')[0]}\b", re.M)
+        if not parts[0][:1].isupper():
+            return parts
+        file = next(path for path in listed(f"crates/{self.crate}/src/*.rt") if declares.search(read(path)))
+        return [*Text(file.split("/", 2)[2], "").module, *parts]
 
     def changes(self):
         """What the edit puts into its crate: of a file, from where to where, which text."""

@@ -79,6 +79,7 @@ def applied(edits, room):
     for edit in stood:
         if edit.copied:
             copy_answers(room, edit.copied.split("::"), next(iter(edit.struck)).split("::"))
+            search_at(room, edit)
     return stood
 
 
@@ -90,6 +91,18 @@ def copy_answers(room, named, tried):
         for file in to.iterdir():
             text = file.read_text(encoding="utf-8")
             file.write_text(text.replace(f".{'.'.join(named)}.", f".{'.'.join(tried)}."), encoding="utf-8")
+
+
+def search_at(room, edit):
+    """Has the goals that an edit names searched for as where such an answer is stored: then none of its function is searched for by more."""
+    for goal in edit.goals:
+        place, name = edit.place(), goal.split()[0]
+        file = pathlib.Path(room, "proofs", *place, "Answers.antt")
+        file.parent.mkdir(parents=True, exist_ok=True)
+        own = f"use Rattle.{edit.crate}.proofs.{'.'.join(place)}.Goals as goal\n"
+        text = file.read_text(encoding="utf-8") if file.exists() else own
+        rules = "" if re.search(r"^use .*\brules\b", text, re.M) else "use Rattle.std.proofs.Common.{rules}\n"
+        file.write_text(f"{rules}{text}\npub {name} : goal.{name}\n{goal} = search rules\n", encoding="utf-8")
 
 
 def check(crate, round, kept):
