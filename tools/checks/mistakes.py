@@ -35,6 +35,7 @@ import rtlib
 KIT = "rattle-kit-13f"
 JUDGED = re.compile(r"^fn (\S+): (proved|not proved|no proof: (?!it calls)|no proof: it calls|could not tell)", re.M)
 CALLS = re.compile(r"^fn [^:]+::(\S+): (?:not proved; |no proof: )it calls (.*), which (?:is|are) not proved", re.M)
+ABSENT = re.compile(r"^(?:\./)?proofs/(\S+)/\w+\.antt:\d+:\d+: error: `([^`]+)`: `goal\.\2`: module `[^`]+` has no `\2`", re.M)
 GOAL = re.compile(r"^(?:\./)?proofs/(\S+)/\w+\.antt:\d+:\d+: error: `([^`]+)`", re.M)
 
 
@@ -94,7 +95,7 @@ def copy_answers(room, named, tried):
 
 
 def search_at(room, edit):
-    """Has the goals that an edit names searched for as where such an answer is stored: then none of its function is searched for by more."""
+    """Has the goals that an edit names searched for as where such a line is stored: by one tactic, and nothing is offered to write."""
     for goal in edit.goals:
         place, name = edit.place(), goal.split()[0]
         file = pathlib.Path(room, "proofs", *place, "Answers.antt")
@@ -141,6 +142,10 @@ def judged(edit, said):
     refused = [name for name, how in lines if how in ("not proved", "no proof: ")]
     if refused:
         places = {name.partition("::")[2].replace("::", "/") for name in refused}
+        absent = {goal for place, goal in ABSENT.findall(said) if place in places}
+        # a goal that is not there shows nothing of the clause that it was named for
+        if any(goal.split()[0] in absent for goal in edit.goals):
+            return "faulty", f"its function has no goal {', '.join(absent)}"
         goals = [goal for place, goal in GOAL.findall(said) if place in places]
         return "refused", f"{refused[0].partition('::')[2]}: {', '.join(dict.fromkeys(goals)) or 'a search that failed'}"
     if lines and all(how == "proved" for _, how in lines):
