@@ -9,6 +9,7 @@ pub mod Standing
 mod Held
 mod ChangesInOrder
 mod NewTables
+mod InTurn
 mod ListedTables
 mod Commit
 mod Fitness

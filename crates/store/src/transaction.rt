@@ -26,25 +26,17 @@ pub enum Task {
     Save,
 }
 
-/// Makes one change.
-fn apply<S: Alter>(tx: &mut Transaction<'_, S>, change: &Change) -> Result<(), TableFault>
-    ensures same_reference { tx.new.conn.ghost_name ≡ tx.old.conn.ghost_name }
-    ensures step { Steps S.Store (applying change.now) result tx.old.conn.now tx.new.conn.now }
-{
-    match change {
-        Change::Put(row) => enter(tx, Entering::InPlace, row.table(), row.cells()),
-        Change::Add(row) => enter(tx, Entering::New, row.table(), row.cells()),
-        Change::Remove(part) => leave(tx, part.group(), part.cells()),
-    }
-}
-
 /// Makes the changes in order.
-fn apply_all<S: Alter>(tx: &mut Transaction<'_, S>, changes: &[Change]) -> Result<(), TableFault>
+fn apply<S: Alter>(tx: &mut Transaction<'_, S>, changes: &[Change]) -> Result<(), TableFault>
     ensures same_reference { tx.new.conn.ghost_name ≡ tx.old.conn.ghost_name }
     ensures step { Runs S.Store (each_of applying changes.now) result tx.old.conn.now tx.new.conn.now }
 {
     for change in changes {
-        apply(tx, change)?;
+        match change {
+            Change::Put(row) => enter(tx, Entering::InPlace, row.table(), row.cells())?,
+            Change::Add(row) => enter(tx, Entering::New, row.table(), row.cells())?,
+            Change::Remove(part) => leave(tx, part.group(), part.cells())?,
+        }
     }
     Ok(())
 }
@@ -89,7 +81,7 @@ fn migrate<S: Alter>(
 {
     enter(tx, Entering::InPlace, Table::Edition, &edition_row())?;
     make_each(tx, beyond(edition))?;
-    apply_all(tx, changes)
+    apply(tx, changes)
 }
 
 /// Does the task.
@@ -104,7 +96,7 @@ fn perform<S: Alter>(
     match task {
         Task::Create => create(tx),
         Task::Migrate(edition) => migrate(tx, edition, changes),
-        Task::Save => apply_all(tx, changes),
+        Task::Save => apply(tx, changes),
     }
 }
 
