@@ -41,8 +41,8 @@ fn serve_at<S: Alter + Drop>(
             let mut writer = Watched::new(Vec::new(alloc));
             let came = serve_stream(alloc, &mut desk, &mut reader, &mut writer);
             let connection = desk.into_connection();
-            // Asked for its clause alone: no transaction is open.
-            connection.is_autocommit();
+            // So what the database shows is committed.
+            prove!(connection.is_autocommit());
             match came {
                 Ok(_) => Ok((writer.into_inner(), connection)),
                 Err(_) => Err(Refusal::Memory),
