@@ -67,17 +67,34 @@ class Text:
             found = name
         return found
 
-    def span(self, name):
-        """Where a function begins and ends, with its attributes and without its comments."""
+    def lines_of(self, name):
+        """The lines of the file, where each begins, and of a function the number of its first line and its indent."""
         lines = self.text.split("\n")
         at = next(number for number, it in self.functions if it == name)
-        indent = FUNCTION.match(lines[at])[1]
+        return lines, [0, *itertools.accumulate(len(line) + 1 for line in lines)], at, FUNCTION.match(lines[at])[1]
+
+    def span(self, name):
+        """Where a function begins and ends, with its attributes and without its comments."""
+        lines, begins, at, indent = self.lines_of(name)
         first = at
         while lines[first - 1].startswith(indent + "#["):
             first -= 1
-        last = lines.index(indent + "}", at)
-        begins = [0, *itertools.accumulate(len(line) + 1 for line in lines)]
-        return begins[first], begins[last + 1]
+        return begins[first], begins[lines.index(indent + "}", at) + 1]
+
+    def body(self, name):
+        """Where the lines between the braces of a function begin and end; nothing of one whose braces stand in one line."""
+        lines, begins, at, indent = self.lines_of(name)
+        opens = next(number for number in range(at, len(lines)) if re.match(rf"{indent}(?:\S.*)?[{{}}]$", lines[number]))
+        return (begins[opens + 1], begins[lines.index(indent + "}", opens)]) if lines[opens].endswith("{") else None
+
+
+def place(crate, name):
+    """Where the prover has a function, below the crate: a method is below the module of its type."""
+    parts, declares = name.split("::"), re.compile(rf"^(?:pub(?:\([a-z]+\))? )?(?:struct|enum) {name.split('::')[0]}\b", re.M)
+    if not parts[0][:1].isupper():
+        return parts
+    file = next(path for path in listed(f"crates/{crate}/src/*.rt") if declares.search(read(path)))
+    return [*Text(file.split("/", 2)[2], "").module, *parts]
 
 
 class Edit:
@@ -131,15 +148,6 @@ class Edit:
         text = Text(file, read("crates", self.crate, file))
         if name not in text.once:
             self.copied, self.struck = name, {f"{name}_tried_{number}"}
-
-    def place(self):
-        """Where the prover has the copy, below the crate: a method is below the module of its type."""
-        (name,) = self.struck
-        parts, declares = name.split("::"), re.compile(rf"^(?:pub(?:\([a-z]+\))? )?(?:struct|enum) {name.split('::')[0]}\b", re.M)
-        if not parts[0][:1].isupper():
-            return parts
-        file = next(path for path in listed(f"crates/{self.crate}/src/*.rt") if declares.search(read(path)))
-        return [*Text(file.split("/", 2)[2], "").module, *parts]
 
     def changes(self):
         """What the edit puts into its crate: of a file, from where to where, which text."""

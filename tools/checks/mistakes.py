@@ -9,9 +9,10 @@ tools/checks/mistakes.py --can                 whether this is the toolchain who
 What an edit is, `edits.py` says. It runs after `rt ci`, which leaves the libraries below in crates/*/out.
 
 The prover judges each function by the contracts of what it calls, and by no body. So each edit strikes a copy of its function, which has the
-same contract and the same stored proof, and all edits of a crate stand in one text and are judged in one check: a round. A method of a trait
-has no copy, nor have several functions that one edit strikes: there it strikes what it names. Where a function is then not judged, since one
-that it calls was refused, its edit goes into a further round, by itself if need be. One line a mistake says which goals of its own function
+same contract and the same stored proof, and all edits of a crate stand in one text and are judged in one check: a round. The body of each
+function that no edit strikes is left out, and the function is taken for proved, as `rt ci` has proved it. A method of a trait has no copy,
+nor have several functions that one edit strikes: there it strikes what it names. Where a function is then not judged, since one that it
+calls was refused, its edit goes into a further round, by itself if need be. One line a mistake says which goals of its own function
 were refused. A mistake that is proved fails the run, and so does a twin that is not, one whose text no longer stands, which does not compile,
 or of which the prover says nothing by itself.
 """
@@ -26,15 +27,17 @@ import sys
 import tempfile
 
 sys.path.append(f"{sys.path[0]}/..")
-from edits import FOLDERS, edits
+from edits import FOLDERS, Text, edits, place
 from office import TOP
 
 sys.path.insert(0, os.path.dirname(os.path.realpath(shutil.which("rt"))))
 import rtlib
 
 KIT = "rattle-kit-13f"
-JUDGED = re.compile(r"^fn (\S+): (proved|not proved|no proof: (?!it calls)|no proof: it calls|could not tell)", re.M)
+JUDGED = re.compile(r"^fn (\S+): (no holes|depends on a hole|not proved|no proof: (?!it calls)|no proof: it calls|could not tell)", re.M)
 CALLS = re.compile(r"^fn [^:]+::(\S+): (?:not proved; |no proof: )it calls (.*), which (?:is|are) not proved", re.M)
+# the one goal of a function whose body is left out
+NEVER = "unreachable-requires"
 ABSENT = re.compile(r"^(?:\./)?proofs/(\S+)/\w+\.antt:\d+:\d+: error: `([^`]+)`: `goal\.\2`: module `[^`]+` has no `\2`", re.M)
 GOAL = re.compile(r"^(?:\./)?proofs/(\S+)/\w+\.antt:\d+:\d+: error: `([^`]+)`", re.M)
 
@@ -94,16 +97,36 @@ def copy_answers(room, named, tried):
             file.write_text(text.replace(f".{'.'.join(named)}.", f".{'.'.join(tried)}."), encoding="utf-8")
 
 
+def answers_of(room, crate, name):
+    """Where the stored proof of a function stands in a room, and the line by which it names its goals."""
+    at = place(crate, name)
+    folder = pathlib.Path(room, "proofs", *at)
+    folder.mkdir(parents=True, exist_ok=True)
+    return folder / "Answers.antt", f"use Rattle.{crate}.proofs.{'.'.join(at)}.Goals as goal\n"
+
+
 def search_at(room, edit):
     """Has the goals that an edit names searched for as where such a line is stored: by one tactic, and nothing is offered to write."""
     for goal in edit.goals:
-        place, name = edit.place(), goal.split()[0]
-        file = pathlib.Path(room, "proofs", *place, "Answers.antt")
-        file.parent.mkdir(parents=True, exist_ok=True)
-        own = f"use Rattle.{edit.crate}.proofs.{'.'.join(place)}.Goals as goal\n"
+        (struck,), name = edit.struck, goal.split()[0]
+        file, own = answers_of(room, edit.crate, struck)
         text = file.read_text(encoding="utf-8") if file.exists() else own
         rules = "" if re.search(r"^use .*\brules\b", text, re.M) else "use Rattle.std.proofs.Common.{rules}\n"
         file.write_text(f"{rules}{text}\npub {name} : goal.{name}\n{goal} = search rules\n", encoding="utf-8")
+
+
+def leave_out(room, crate, struck):
+    """Leaves out the body of each function that is not struck, with a hole for the proof that it is never reached."""
+    for path in pathlib.Path(room, "src").rglob("*.rt"):
+        text = Text(str(path.relative_to(room)), path.read_text(encoding="utf-8"))
+        kept, names = text.text, {name for _, name in text.functions if name and name not in struck | text.once}
+        bodies = {body: name for name in names if (body := text.body(name))}
+        for (first, last), name in sorted(bodies.items(), reverse=True):
+            kept = f"{kept[:first]}unreachable!()\n{kept[last:]}"
+            shutil.rmtree(pathlib.Path(room, "proofs", *place(crate, name)), ignore_errors=True)
+            file, own = answers_of(room, crate, name)
+            file.write_text(f"{own}\npub {NEVER} : goal.{NEVER}\n{NEVER} = ?\n", encoding="utf-8")
+        path.write_text(kept, encoding="utf-8")
 
 
 def check(crate, round, kept):
@@ -113,8 +136,10 @@ def check(crate, round, kept):
             if os.path.isdir(f"{crate.folder}/{part}"):
                 shutil.copytree(f"{crate.folder}/{part}", f"{room}/{part}")
         round = applied(round, room)
-        only = [word for name in sorted({name for edit in round for name in edit.struck}) for word in ("--only", name)]
-        command = [rtlib.RATTLE, "check", *crate.words(["--jobs", "1"], keeps=False), *only, "--incremental", kept]
+        struck = {name for edit in round for name in edit.struck}
+        leave_out(room, crate.name, struck)
+        only = [word for name in sorted(struck) for word in ("--only", name)]
+        command = [rtlib.RATTLE, "check", *crate.words(["--jobs", "1"], keeps=False), *only, "--allow-holes", "--incremental", kept]
         how = {"cwd": room, "stdin": subprocess.DEVNULL, "stdout": subprocess.PIPE, "stderr": subprocess.STDOUT, "text": True, "errors": "replace"}
         ran = subprocess.Popen([*rtlib.guarded(), *command], **how)
         said = ran.stdout.read()
@@ -142,13 +167,13 @@ def judged(edit, said):
     refused = [name for name, how in lines if how in ("not proved", "no proof: ")]
     if refused:
         places = {name.partition("::")[2].replace("::", "/") for name in refused}
-        absent = {goal for place, goal in ABSENT.findall(said) if place in places}
+        absent = {goal for at, goal in ABSENT.findall(said) if at in places}
         # a goal that is not there shows nothing of the clause that it was named for
         if any(goal.split()[0] in absent for goal in edit.goals):
             return "faulty", f"its function has no goal {', '.join(absent)}"
-        goals = [goal for place, goal in GOAL.findall(said) if place in places]
+        goals = [goal for at, goal in GOAL.findall(said) if at in places]
         return "refused", f"{refused[0].partition('::')[2]}: {', '.join(dict.fromkeys(goals)) or 'a search that failed'}"
-    if lines and all(how == "proved" for _, how in lines):
+    if lines and all(how in ("no holes", "depends on a hole") for _, how in lines):
         return "proved", ""
     return "unjudged", next(iter(said.splitlines()), "")
 
